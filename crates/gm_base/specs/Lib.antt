@@ -1,0 +1,5 @@
+pub mod Aim
+pub mod Extent
+pub mod Leaf
+pub mod Scripts
+pub mod Values

@@ -1,0 +1,51 @@
+//! Leaves of the stage-two table.
+
+ghost use Rattle.std.specs.Prelude.{◌≡◌};
+ghost use Rattle.gm_base.specs.Leaf.{covers, meets_leaf, serves};
+
+use crate::access::Access;
+use crate::span::Span;
+use crate::values::{Kind, Level, Op, Place};
+
+/// A mapping of one page or of one block: its first page, its size, its kind, what its first page maps to, and
+/// whether it may be written.
+#[derive(Clone, Copy, Debug, PartialEq, Eq)]
+pub struct Leaf {
+    pub first: u64,
+    pub level: Level,
+    pub kind: Kind,
+    pub place: Place,
+    pub writable: bool,
+}
+
+impl Leaf {
+    /// Whether the page of this number is one of the leaf's.
+    pub fn covers(&self, page: u64) -> bool
+        ensures { result ≡ covers self.now page }
+    {
+        self.first <= page && page - self.first < self.level.pages()
+    }
+
+    /// Whether a page of the span is one of the leaf's.
+    pub fn meets(&self, span: Span) -> bool
+        ensures { result ≡ meets_leaf self.now span }
+    {
+        let (lo, hi) = (span.lo(), span.hi());
+        self.first < hi && (lo <= self.first || lo - self.first < self.level.pages())
+    }
+
+    /// Whether the access can go by the leaf: it covers the page, has the kind, and may be written for a write.
+    pub fn serves(&self, access: Access) -> bool
+        ensures { result ≡ serves self.now access }
+    {
+        let permits = match access.op() {
+            Op::Read => true,
+            Op::Write(_) => self.writable,
+        };
+        let is_same_kind = match (self.kind, access.kind()) {
+            (Kind::Private, Kind::Private) | (Kind::Shared, Kind::Shared) => true,
+            _ => false,
+        };
+        self.covers(access.page().number()) && is_same_kind && permits
+    }
+}

@@ -1,0 +1,56 @@
+//! A list of spans with room to spare.
+
+ghost use Rattle.std.specs.Prelude.{◌≡◌, ◌+◌, ◌-◌, ◌<◌, ◌≤◌, ◌++◌, ◌∷◌, [], OnOk, OnErr, IfOk, IsOk};
+
+use gm_base::{NoMemory, Span};
+use std::alloc::Global;
+use std::marker::Model;
+
+/// Spans in order, and how many more can be pushed without memory.
+#[derive(Debug, Drop)]
+pub struct Spans {
+    items: Vec<Span>,
+    // `Vec` doesn't promise that a push keeps its capacity, so the room is counted here.
+    spare: u32,
+}
+
+impl Model for Spans {
+    ghost use Rattle.std.specs.Prelude.{ℕ, ◌+◌, ◌≤◌, vec_capacity, vec_len};
+    ghost use Rattle.gm_flat.specs.Roomy.{Roomy};
+
+    ghost Value = { Roomy };
+
+    ghost view = { λ s. record { list = s.items.items; spare = s.spare } };
+
+    ghost invariant = { λ s. vec_len s.items + s.spare ≤ vec_capacity s.items };
+}
+
+impl Spans {
+    /// No span, with this room.
+    pub fn new(alloc: Global, room: u32) -> Result<Spans, NoMemory>
+        ensures list { IfOk result (λ spans. spans.list ≡ []) }
+        ensures room { IfOk result (λ spans. spans.spare ≡ room) }
+    {
+        let items = Vec::with_capacity(alloc, room as usize)?;
+        Ok(Spans { items, spare: room })
+    }
+
+    /// Appends a span. Where there is spare room it takes no memory.
+    pub fn push(&mut self, span: Span) -> Result<(), NoMemory>
+        ensures ok { OnOk result (self.new.list ≡ self.old.list ++ span ∷ []) }
+        ensures spare { OnOk result (self.new.spare ≡ self.old.spare - 1) }
+        ensures succeeds { 0 < self.old.spare → IsOk result }
+        ensures err { OnErr result (self.new ≡ self.old) }
+    {
+        self.items.push(span)?;
+        self.spare = self.spare.saturating_sub(1);
+        Ok(())
+    }
+
+    /// The spans, in the order in which they were pushed.
+    pub fn list(&self) -> &[Span]
+        ensures { result.now ≡ self.now.list }
+    {
+        &self.items
+    }
+}
