@@ -1,0 +1,9 @@
+//! Pages of words.
+#![tactic(auto)]
+
+mod bank;
+
+pub use bank::Bank;
+
+#[cfg(test)]
+mod tests;
