@@ -1,0 +1,5 @@
+pub mod Fits
+pub mod Flags
+pub mod Kept
+pub mod Settled
+pub mod Steps
