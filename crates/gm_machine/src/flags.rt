@@ -46,7 +46,8 @@ impl ActorFlags {
     /// Sets the actor's flag.
     pub fn set(&mut self, actor: Actor)
         requires { IsAmong self.old actor }
-        ensures { self.new ≡ with_flag self.old actor }
+        ensures flags { self.new ≡ with_flag self.old actor }
+        ensures set { flag_of self.new actor ≡ true }
     {
         match actor {
             Actor::Vcpu(v) => self.vcpus[v as usize] = true,

@@ -60,6 +60,7 @@ impl Machine {
     pub fn make_room(&mut self, actor: Actor) -> Result<(), NoMemory>
         requires { IsOf self.old.orders.setup actor }
         ensures ok { OnOk result (self.new ≡ record self.old { room = with_flag self.old.room actor }) }
+        ensures room { OnOk result (flag_of self.new.room actor ≡ true) }
         ensures err { OnErr result (self.new ≡ self.old) }
     {
         self.log.reserve(3)?;
