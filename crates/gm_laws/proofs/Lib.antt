@@ -1,0 +1,16 @@
+mod Tally
+mod Kit
+mod Flats
+mod Ids
+mod Good
+mod Routes
+mod Adds
+mod Grow
+mod Keep
+mod KeepVcpu
+mod KeepCaller
+mod Plans
+mod Locks
+mod LocksKeep
+mod SafeChange
+pub mod Touches
