@@ -159,7 +159,7 @@ route_ok ToUser b n s frames a l past looks ids ok e g adding =
     let u = route_user a l.attr (looked_slot l past) e in
     let row : over a.page (flat_at l.at past).slots ≡ Some u.2.0 = sym (looked_over a s l past ids ok) ∙ u.2.1 in
     subst (λ (x : Option Addition). GotUse s a b (add x (flat past)) past) (sym (user_none b n a.page (looked_slot l past) l.file (index_in a.page (looked_slot l past)) (flat past).files g))
-        (user_ok b n s a l u.2.0 past looks ok row u.1 u.0 u.2.2 (user_backing b n a.page (looked_slot l past) u.2.0 u.2.1 g))
+    (user_ok b n s a l u.2.0 past looks ok row u.1 u.0 u.2.2 (user_backing b n a.page (looked_slot l past) u.2.0 u.2.1 g))
 route_ok ToFile b n s frames a l past looks ids ok e g adding =
     let u = route_file a l.attr (looked_slot l past) e in
     let row : over a.page (flat_at l.at past).slots ≡ Some u.2.0 = sym (looked_over a s l past ids ok) ∙ u.2.2 in
@@ -167,7 +167,7 @@ route_ok ToFile b n s frames a l past looks ids ok e g adding =
     let has = (file_get b n frames l.file (index_in a.page (looked_slot l past)) (flat past) g adding).1 in
     let f : Flat = add (get_done b n a l past) (flat past) in
     file_ok b s u.2.1 a l u.2.0 f past looks ok row u.2.3 u.1 u.0 (add_look (get_done b n a l past) (flat past))
-        (subst (λ (i : Option ℕ). FileHas b (Some u.2.1) i f) (ap (index_in a.page) u.2.2) (subst (λ (F : Option ℕ). FileHas b F (index_in a.page (looked_slot l past)) f) file has))
+    (subst (λ (i : Option ℕ). FileHas b (Some u.2.1) i f) (ap (index_in a.page) u.2.2) (subst (λ (F : Option ℕ). FileHas b F (index_in a.page (looked_slot l past)) f) file has))
 route_ok ToFault b n s frames a l past looks ids ok e g adding = absurd g
 route_ok ToMmio b n s frames a l past looks ids ok e g adding = absurd g
 

@@ -14,3 +14,7 @@ mod Locks
 mod LocksKeep
 mod SafeChange
 pub mod Touches
+mod Lives
+mod Folios
+pub mod Fates
+pub mod RuledIsRight

@@ -24,18 +24,18 @@ use Rattle.gm_laws.proofs.Locks.{Locks, MemRow-bound, MemRow-unbound, bound}
 use Rattle.gm_laws.proofs.LocksKeep.{CanChange}
 use Rattle.gm_laws.proofs.Plans.{Fits, fits}
 
-pub slot_over_mem : (g : ℕ) (r : SlotView) (rs : List SlotView) → over g rs ≡ Some r → MemSlot r rs × (lies_over r g ≡ true)
-slot_over_mem g r [] e = absurd (none_is r e)
-slot_over_mem g r (x ∷ xs) e =
+pub over_mem : (g : ℕ) (r : SlotView) (rs : List SlotView) → over g rs ≡ Some r → MemSlot r rs × (lies_over r g ≡ true)
+over_mem g r [] e = absurd (none_is r e)
+over_mem g r (x ∷ xs) e =
     elim (cond_is (lies_over x g) (Some x) (over g xs) (Some r) e) [
       | inl y ↦ let s : x ≡ r = some_same x r y.1 in (inl (sym s), ap (λ (z : SlotView). lies_over z g) (sym s) ∙ y.0)
-      | inr y ↦ let z = slot_over_mem g r xs y.1 in (inr z.0, z.1)
+      | inr y ↦ let z = over_mem g r xs y.1 in (inr z.0, z.1)
     ]
 
 -- the row over a page of a file is there in the other state too
 same_row : (F g : ℕ) (r : SlotView) (f h : Flat) → bound F f.slots ≡ bound F h.slots → over g f.slots ≡ Some r → of_file F r.file ≡ true → MemSlot r h.slots × (lies_over r g ≡ true)
 same_row F g r f h same e k =
-    let m = slot_over_mem g r f.slots e in
+    let m = over_mem g r f.slots e in
     (MemRow-unbound F r h.slots (subst (λ (rs : List SlotView). MemSlot r rs) same (MemRow-bound F r f.slots m.0 k)), m.1)
 
 cut_on : (F lo hi g : ℕ) (f h : Flat) (o : Option SlotView) → bound F f.slots ≡ bound F h.slots → over g f.slots ≡ o → in_cut F lo hi g o ≡ true → (r : SlotView) × MemSlot r h.slots × (lies_over r g ≡ true) × (of_file F r.file ≡ true) × ((leb lo (index_of r g) && ltb (index_of r g) hi) ≡ true)

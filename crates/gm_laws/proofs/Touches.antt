@@ -35,7 +35,7 @@ use Rattle.gm_laws.proofs.Kit.{by, changed-le, flat_at_all, none_is, settled-le,
 use Rattle.gm_laws.proofs.Locks.{Locks, SlotFiles}
 use Rattle.gm_laws.proofs.LocksKeep.{can_change, locks_keep}
 use Rattle.gm_laws.proofs.Routes.{route_file}
-use Rattle.gm_laws.proofs.SafeChange.{safe}
+use Rattle.gm_laws.proofs.SafeChange.{over_mem, safe}
 use Rattle.gm_laws.proofs.Tally.{tally}
 use Rattle.gm_laws.specs.May.{May, MayRetry, MayTouch, ServedBy}
 use Rattle.gm_laws.specs.Ruled.{Follows}
