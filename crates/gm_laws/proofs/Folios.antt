@@ -210,7 +210,7 @@ effect_keeps (File file pages block) f = (refl, λ s c. c)
 effect_keeps (Word page word value) f = (refl, λ s c. c)
 
 -- holds: what is held after an entry was held before, but for a Get
-abbrev HeldBy : What → Actor → ℕ → ℕ → List Entry → Type 0
+abbrev pub HeldBy : What → Actor → ℕ → ℕ → List Entry → Type 0
 HeldBy (Get b n) (Vcpu u) s v past = (u ≡ v) × IsOfFolio s b
 HeldBy _ a s v past = ⊥
 

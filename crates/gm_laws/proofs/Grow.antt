@@ -127,7 +127,7 @@ has_folio : (b : Backing) (F i : ℕ) (f : Flat) → FileHas b (Some F) (Some i)
 has_folio (User u) F i f h = absurd h
 has_folio (InFolio fo) F i f h = (fo, refl, h)
 
-name_private : (f : Flat) (g F : ℕ) (r : SlotView) (fo : Folio) → over g f.slots ≡ Some r → r.file ≡ Some F → attr_of g f.attrs ≡ Private → cached F (index_of r g) f.cache ≡ Some fo → named f g ≡ Some (record { kind = Private; backing = InFolio fo; writable = true })
+pub name_private : (f : Flat) (g F : ℕ) (r : SlotView) (fo : Folio) → over g f.slots ≡ Some r → r.file ≡ Some F → attr_of g f.attrs ≡ Private → cached F (index_of r g) f.cache ≡ Some fo → named f g ≡ Some (record { kind = Private; backing = InFolio fo; writable = true })
 name_private f g F r fo e q k c =
     ap (λ (row : Option SlotView). named_by g f.cache (attr_of g f.attrs) row) e ∙ (ap (λ (kind : Kind). named_by g f.cache kind (Some r)) k ∙ (ap (λ (o : Option ℕ). file_named (index_of r g) f.cache o) q ∙ ap folio_named c))
 

@@ -18,3 +18,9 @@ mod Lives
 mod Folios
 pub mod Fates
 pub mod RuledIsRight
+mod Rows
+mod OneRead
+mod Conversion
+mod FlushPending
+mod HeldPage
+mod MixedBlock
