@@ -24,3 +24,6 @@ mod Conversion
 mod FlushPending
 mod HeldPage
 mod MixedBlock
+mod Contents
+mod Prefix
+pub mod RightIsRuled

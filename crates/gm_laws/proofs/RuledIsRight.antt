@@ -106,7 +106,7 @@ right_lives : (o : Orders) (e : Entry) (past : List Entry) → FollowsRules o e 
 right_lives o e past r f = record { here = lives_of o e.what e.actor past (lives o past f) (good o past f) r.may; at_rest = λ new. at_rest o past f (r.freed new) }
 
 -- each of them at each position
-each : (o : Orders) (P : Entry → List Entry → Type 0) → ((e : Entry) (past : List Entry) → FollowsRules o e past → Follows o past → P e past) → (past : List Entry) → Follows o past → Each P past
+pub each : (o : Orders) (P : Entry → List Entry → Type 0) → ((e : Entry) (past : List Entry) → FollowsRules o e past → Follows o past → P e past) → (past : List Entry) → Follows o past → Each P past
 each o P f [] r = tt
 each o P f (e ∷ past) r = (f e past r.0 r.1, each o P f past r.1)
 
