@@ -95,7 +95,7 @@ PageAddsBy frames p None d f = (index : ℕ) → IsFirstOpen p index f → UsesF
 PageAddsBy frames p (Some base) d f = AddsOne frames d.index d f
 
 abbrev pub PageAdds : ℕ → Plan → Option Addition → Flat → Type 0
-PageAdds frames (Paged p) (Some d) f = IsNext d f × PageAddsBy frames p p.base d f
+PageAdds frames (Paged p) (Some d) f = (d.file ≡ p.file) × IsNext d f × PageAddsBy frames p p.base d f
 PageAdds frames plan d f = ⊥
 
 -- the plan of a call in progress, over the flat state at its Judge

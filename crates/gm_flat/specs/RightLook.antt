@@ -30,24 +30,24 @@ pub data Route : Type 0 where
   ToFile : Route
   ToUser : Route
 
+abbrev pub file_route : Option ℕ → Route
+file_route None = ToFault
+file_route (Some file) = ToFile
+
 abbrev pub private_route : Option SlotView → Route
 private_route None = ToFault
-private_route (Some s) = by_file s.file
-  where
-    by_file : Option ℕ → Route
-    by_file None = ToFault
-    by_file (Some file) = ToFile
+private_route (Some s) = file_route s.file
 
 abbrev pub shared_route : Aim → Option SlotView → Route
 shared_route a None = ToMmio
 shared_route a (Some s) = if permits (not (has_flag KVM_MEM_READONLY s.flags)) a.op then ToUser else ToMmio
 
+abbrev pub route_by : Kind → Aim → Option SlotView → Route
+route_by Private a slot = private_route slot
+route_by Shared a slot = shared_route a slot
+
 abbrev pub route : Aim → Kind → Option SlotView → Route
-route a attr slot = if same_kind a.kind attr then by_kind a.kind else ToFault
-  where
-    by_kind : Kind → Route
-    by_kind Private = private_route slot
-    by_kind Shared = shared_route a slot
+route a attr slot = if same_kind a.kind attr then route_by a.kind a slot else ToFault
 
 -- a fault's route
 abbrev pub route_seen : Aim → Seen → List Entry → Route
