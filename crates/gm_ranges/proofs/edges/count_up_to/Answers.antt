@@ -1,0 +1,16 @@
+use Rattle.std.proofs.Common.{ℕ, leb, leb-true, leb-false, arith, rules}
+use Rattle.std.proofs.lemmas.List.Sorted.{IsPartitionPoint-from_clause, IsPartitionedBy-leb}
+use Rattle.gm_ranges.proofs.Rising.{rises_sorted}
+use Rattle.gm_ranges.proofs.edges.count_up_to.Goals as goal
+
+pub returns-clause-before : goal.returns-clause-before
+returns-clause-before c =
+    let parted = IsPartitionedBy-leb (λ (x : ℕ). x) _ c.args.page (rises_sorted c.args.edges.now c.requires) in
+    let point = IsPartitionPoint-from_clause (λ (x : ℕ). leb x c.args.page) _ _ c.partition_point.ensures.partitioned parted (λ a r q k. search rules) in
+    λ k h. leb-true _ _ (point.0 k 0 (omega arith) h)
+
+pub returns-clause-after : goal.returns-clause-after
+returns-clause-after c =
+    let parted = IsPartitionedBy-leb (λ (x : ℕ). x) _ c.args.page (rises_sorted c.args.edges.now c.requires) in
+    let point = IsPartitionPoint-from_clause (λ (x : ℕ). leb x c.args.page) _ _ c.partition_point.ensures.partitioned parted (λ a r q k. search rules) in
+    λ k h l. leb-false _ _ (point.1 k 0 h l)

@@ -1,0 +1,53 @@
+-- A truth value for each page, by the calls that set it and by the pages at which it changes.
+use Rattle.std.specs.Prelude.{◌≡◌, ℕ, ◌+◌, ◌≤◌, List, [], ◌∷◌, Bool, true, false, not, nat_le, None, Some, if◌then◌else◌}
+use Rattle.std.specs.declared.option.Option.{Option}
+use Rattle.gm_base.specs.Extent.{Extent, holds}
+
+-- a set call: the pages of a span get a value
+pub record Call : Type 0 where
+  pub span : Extent
+  pub value : Bool
+
+-- the value of a page after calls whose newest one stands first: that of the newest that holds the page, and false
+-- where none does
+abbrev pub value_after : List Call → ℕ → Bool
+value_after [] page = false
+value_after (call ∷ calls) page = if holds call.span page then call.value else value_after calls page
+
+-- the pages at which the value changes, in rising order, and for how many more calls there is room
+pub record Runs : Type 0 where
+  pub edges : List ℕ
+  pub spare : ℕ
+
+-- a value that each edge up to the page turns
+abbrev pub turned : Bool → List ℕ → ℕ → Bool
+turned value [] page = value
+turned value (edge ∷ edges) page = turned (if nat_le edge page then not value else value) edges page
+
+-- the value of a page: from false on, each edge up to it turns the value
+abbrev pub value_at : Runs → ℕ → Bool
+value_at runs page = turned false runs.edges page
+
+-- the runs give each page the value that it has after the calls
+abbrev pub Tells : Runs → List Call → Type 0
+Tells runs calls = (page : ℕ) → value_at runs page ≡ value_after calls page
+
+-- every page of the span has the value
+abbrev pub AllHave : Runs → Extent → Bool → Type 0
+AllHave runs span value = (page : ℕ) → holds span page ≡ true → value_at runs page ≡ value
+
+-- two pages of the span have different values
+abbrev pub SomeDiffer : Runs → Extent → Type 0
+SomeDiffer runs span = (page : ℕ) × (other : ℕ) × (holds span page ≡ true) × (holds span other ≡ true) × (value_at runs page ≡ true) × (value_at runs other ≡ false)
+
+-- numbers from low on that rise
+abbrev pub Rises : ℕ → List ℕ → Type 0
+Rises low [] = Unit {0}
+Rises low (edge ∷ edges) = (low ≤ edge) × Rises (edge + 1) edges
+
+-- the edge at a page whose value is to change from one to another, if it does
+abbrev pub edge_between : Bool → Bool → ℕ → Option ℕ
+edge_between true true page = None
+edge_between true false page = Some page
+edge_between false true page = Some page
+edge_between false false page = None
