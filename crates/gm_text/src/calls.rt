@@ -14,7 +14,8 @@ pub fn put_reply<K: Sink>(sink: &mut K, out: &mut Gathered, reply: Reply) -> Res
 {
     match reply {
         Reply::Good(n) => put_text!(sink, out; Word b"answer ok=", Number n),
-        Reply::Bad(errno) => put_text!(sink, out; Word b"answer errno=", Number errno.number() as u64),
+        Reply::Bad(errno) =>
+            put_text!(sink, out; Word b"answer errno=", Number errno.number() as u64),
     }
 }
 

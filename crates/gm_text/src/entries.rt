@@ -35,7 +35,12 @@ fn put_backing<K: Sink>(sink: &mut K, out: &mut Gathered, backing: Backing) -> R
     }
 }
 
-fn put_get<K: Sink>(sink: &mut K, out: &mut Gathered, backing: Backing, fresh: u16) -> Result<(), Failed>
+fn put_get<K: Sink>(
+    sink: &mut K,
+    out: &mut Gathered,
+    backing: Backing,
+    fresh: u16,
+) -> Result<(), Failed>
     ensures { Adds (outlet (K.held sink.old) out.old (K.faults sink.old)) (outlet (K.held sink.new) out.new (K.faults sink.new)) (get_text backing fresh) result }
 {
     match backing {
@@ -87,7 +92,15 @@ fn put_miss<K: Sink>(sink: &mut K, out: &mut Gathered, access: Access) -> Result
     put_access(sink, out, access)
 }
 
-fn put_touch<K: Sink>(sink: &mut K, out: &mut Gathered, access: Access, backing: Backing, level: Level, value: u64, fill: u64) -> Result<(), Failed>
+fn put_touch<K: Sink>(
+    sink: &mut K,
+    out: &mut Gathered,
+    access: Access,
+    backing: Backing,
+    level: Level,
+    value: u64,
+    fill: u64,
+) -> Result<(), Failed>
     ensures { Adds (outlet (K.held sink.old) out.old (K.faults sink.old)) (outlet (K.held sink.new) out.new (K.faults sink.new)) (what_text (Touch access backing level value fill)) result }
 {
     put!(out.add(sink, b"touch "));
@@ -97,19 +110,35 @@ fn put_touch<K: Sink>(sink: &mut K, out: &mut Gathered, access: Access, backing:
     put_text!(sink, out; Word b" level=", Word level_word(level), Word b" value=", Number value, Word b" fill=", Number fill)
 }
 
-fn put_install<K: Sink>(sink: &mut K, out: &mut Gathered, page: Page, level: Level) -> Result<(), Failed>
+fn put_install<K: Sink>(
+    sink: &mut K,
+    out: &mut Gathered,
+    page: Page,
+    level: Level,
+) -> Result<(), Failed>
     ensures { Adds (outlet (K.held sink.old) out.old (K.faults sink.old)) (outlet (K.held sink.new) out.new (K.faults sink.new)) (what_text (Install page level)) result }
 {
     put_text!(sink, out; Word b"install page=", Number page.number(), Word b" level=", Word level_word(level))
 }
 
-fn put_page<K: Sink>(sink: &mut K, out: &mut Gathered, index: u64, folio: Folio, pages: u16) -> Result<(), Failed>
+fn put_page<K: Sink>(
+    sink: &mut K,
+    out: &mut Gathered,
+    index: u64,
+    folio: Folio,
+    pages: u16,
+) -> Result<(), Failed>
     ensures { Adds (outlet (K.held sink.old) out.old (K.faults sink.old)) (outlet (K.held sink.new) out.new (K.faults sink.new)) (what_text (PageTurn index folio pages)) result }
 {
     put_text!(sink, out; Word b"page index=", Number index, Word b" serial=", Number folio.serial, Word b" frame=", Number folio.frame as u64, Word b" pages=", Number pages as u64)
 }
 
-fn put_free<K: Sink>(sink: &mut K, out: &mut Gathered, folio: Folio, pages: u32) -> Result<(), Failed>
+fn put_free<K: Sink>(
+    sink: &mut K,
+    out: &mut Gathered,
+    folio: Folio,
+    pages: u32,
+) -> Result<(), Failed>
     ensures { Adds (outlet (K.held sink.old) out.old (K.faults sink.old)) (outlet (K.held sink.new) out.new (K.faults sink.new)) (what_text (Free folio pages)) result }
 {
     put_text!(sink, out; Word b"free serial=", Number folio.serial, Word b" frame=", Number folio.frame as u64, Word b" pages=", Number pages as u64)

@@ -14,7 +14,12 @@ use gm_base::{Actor, Setup};
 use gm_flat::Entry;
 use gm_io::{Failed, Gathered, Sink};
 
-fn put_head<K: Sink>(sink: &mut K, out: &mut Gathered, turn: u64, actor: Actor) -> Result<(), Failed>
+fn put_head<K: Sink>(
+    sink: &mut K,
+    out: &mut Gathered,
+    turn: u64,
+    actor: Actor,
+) -> Result<(), Failed>
     ensures { Adds (outlet (K.held sink.old) out.old (K.faults sink.old)) (outlet (K.held sink.new) out.new (K.faults sink.new)) (joined (decimal turn ∷ codes " " ∷ actor_letter actor ∷ decimal (actor_number actor) ∷ codes " " ∷ [])) result }
 {
     put_text!(sink, out; Number turn, Word b" ", Word letter_of(actor), Number number_of(actor), Word b" ")
@@ -48,7 +53,13 @@ fn put_setup<K: Sink>(sink: &mut K, out: &mut Gathered, setup: Setup) -> Result<
     )
 }
 
-fn put_history<K: Sink>(sink: &mut K, out: &mut Gathered, setup: Setup, entries: &[Entry], turns: u64) -> Result<(), Failed>
+fn put_history<K: Sink>(
+    sink: &mut K,
+    out: &mut Gathered,
+    setup: Setup,
+    entries: &[Entry],
+    turns: u64,
+) -> Result<(), Failed>
     ensures { Adds (outlet (K.held sink.old) out.old (K.faults sink.old)) (outlet (K.held sink.new) out.new (K.faults sink.new)) (history_text setup entries.now turns) result }
 {
     put!(out.add(sink, b"gmem-history 1\n"));

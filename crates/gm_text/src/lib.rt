@@ -18,13 +18,15 @@ macro_rules! put {
     };
 }
 
-mod pieces;
 mod calls;
 mod effects;
 mod entries;
 mod history;
+mod pieces;
 mod words;
 
 pub use history::{write_entry, write_history};
 pub use pieces::{Piece, put_pieces};
 
+#[cfg(test)]
+mod tests;

@@ -19,7 +19,11 @@ pub enum Piece<'a> {
 }
 
 /// Appends the pieces one after another. Where the sink fails, a front of their text was appended.
-pub fn put_pieces<K: Sink>(sink: &mut K, out: &mut Gathered, pieces: &[Piece<'_>]) -> Result<(), Failed>
+pub fn put_pieces<K: Sink>(
+    sink: &mut K,
+    out: &mut Gathered,
+    pieces: &[Piece<'_>],
+) -> Result<(), Failed>
     ensures { Adds (outlet (K.held sink.old) out.old (K.faults sink.old)) (outlet (K.held sink.new) out.new (K.faults sink.new)) (text_of pieces.now) result }
 {
     for piece in pieces {
