@@ -1,3 +1,4 @@
 pub mod EachSet
+pub mod InUser
 pub mod Reversed
 pub mod Ties

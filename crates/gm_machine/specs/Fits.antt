@@ -11,14 +11,15 @@ use Rattle.gm_flat.specs.declared.entry.What.{What}
 use Rattle.gm_flat.specs.declared.entry.What.TheVariants as what
 use Rattle.gm_flat.specs.declared.views.Looked.{Looked}
 use Rattle.gm_fault.specs.declared.ticket.Ticket.{Ticket}
+use Rattle.gm_tlb.specs.declared.tlb.Fill.{Fill}
 use Rattle.gm_script.specs.Built.{IsTouch, IsBuiltCall}
 use Rattle.gm_machine.specs.Flags.{Flags, flag_of, with_flag}
-use Rattle.gm_machine.specs.Kept.{KeptFills, IsInUser, IsSightOf}
+use Rattle.gm_machine.specs.Kept.{IsInUser, AllInUser, IsSightOf}
 use Rattle.gm_machine.specs.declared.parts.Parts.{Parts}
 use Rattle.gm_machine.specs.declared.standing.Phase.{Phase}
 use Rattle.gm_machine.specs.declared.standing.Phase.TheVariants.{Outside, Inside, Faulting}
 use Rattle.gm_machine.specs.declared.vcpu_turns.Served.{Served}
-use Rattle.gm_machine.specs.declared.vcpu_turns.Served.TheVariants.{Fill, Walk, Nothing}
+use Rattle.gm_machine.specs.declared.vcpu_turns.Served.TheVariants.{Fill as ByFill, Walk, Nothing}
 use Rattle.gm_machine.specs.declared.caller_turns.CallerTurn.{CallerTurn}
 use Rattle.gm_machine.specs.declared.caller_turns.CallerTurn.TheVariants.{Gone as GoneTurn, Judged}
 
@@ -42,8 +43,8 @@ PhaseFits user Inside = Unit {0}
 PhaseFits user (Faulting t) = TicketFits user t
 
 abbrev pub ServedFits : ℕ → Served → Type 0
-ServedFits user (Fill s) = IsInUser user s
-ServedFits user (Walk s) = IsInUser user s
+ServedFits user (ByFill f) = IsInUser user f.leaf
+ServedFits user (Walk f) = IsInUser user f.leaf
 ServedFits user Nothing = Unit {0}
 
 -- each actor has what is its own, and what is mapped lies in user memory
@@ -59,7 +60,7 @@ pub record Fits (p : Parts) : Type 0 where
   pub bank : length p.user ≡ p.setup.user
   pub slots : p.slots.user ≡ p.setup.user
   pub leaves : p.leaves.user ≡ p.setup.user
-  pub buffers : (v : ℕ) (d : KeptFills) → v < length p.buffers.items → (slice_index_or p.buffers.items v d).user ≡ p.setup.user
+  pub buffers : (v : ℕ) (d : List Fill) → v < length p.buffers.items → AllInUser p.setup.user (slice_index_or p.buffers.items v d)
   pub phases : (v : ℕ) (d : Phase) → v < length p.phases.items → PhaseFits p.setup.user (slice_index_or p.phases.items v d)
   pub touches : (v k : ℕ) (d : List Command) → v < length p.vcpus.items → IfSome (slice_get (slice_index_or p.vcpus.items v d) k) IsTouch
   pub calls : (c k : ℕ) (d : List Command) → c < length p.callers.items → IfSome (slice_get (slice_index_or p.callers.items c d) k) (IsBuiltCall p.setup.user)

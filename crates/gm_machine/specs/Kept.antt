@@ -1,15 +1,15 @@
 -- What the parts of a machine keep.
 use Rattle.std.specs.Prelude.{◌≡◌, ℕ, ◌+◌, ◌<◌, ◌≤◌, ◌^◌, Bool, true, false, ◌&&◌, ◌||◌, nat_lt, List, [], ◌∷◌, Some, None, if◌then◌else◌}
 use Rattle.std.specs.declared.option.Option.{Option}
-use Rattle.gm_base.specs.Aim.{Aim}
-use Rattle.gm_base.specs.Leaf.{covers, serves}
+use Rattle.gm_base.specs.Leaf.{covers}
+use Rattle.gm_base.specs.declared.leaf.Leaf.{Leaf}
 use Rattle.gm_base.specs.declared.values.Place.{Place}
 use Rattle.gm_base.specs.declared.values.Place.TheVariants.{User, Frame}
 use Rattle.gm_base.specs.declared.numbers.TheConstants.{PAGE_LIMIT}
 use Rattle.gm_flat.specs.declared.entry.Entry.{Entry}
 use Rattle.gm_flat.specs.declared.views.SlotView.{SlotView}
 use Rattle.gm_fault.specs.Routes.{IsSlotOver}
-use Rattle.gm_machine.specs.declared.standing.Standing.{Standing}
+use Rattle.gm_tlb.specs.declared.tlb.Fill.{Fill}
 
 -- entries with the newest first, and how many more can be appended without memory
 pub record KeptLog : Type 0 where
@@ -24,13 +24,8 @@ pub record KeptSlots : Type 0 where
 
 -- leaves with the newest first, how many more can be added without memory, and the count of user pages
 pub record KeptLeaves : Type 0 where
-  pub list : List Standing
+  pub list : List Leaf
   pub spare : ℕ
-  pub user : ℕ
-
--- fills with the newest first, and the count of user pages
-pub record KeptFills : Type 0 where
-  pub list : List Standing
   pub user : ℕ
 
 -- the slot's guest pages and indexes are below 2^52, and its user pages are ones of the machine
@@ -58,15 +53,15 @@ IsUserPlace user (User page) = page < user
 IsUserPlace user (Frame frame) = ⊥
 
 -- the leaf maps a user page of the machine
-abbrev pub IsInUser : ℕ → Standing → Type 0
-IsInUser user s = IsUserPlace user s.leaf.place
+abbrev pub IsInUser : ℕ → Leaf → Type 0
+IsInUser user leaf = IsUserPlace user leaf.place
+
+-- each fill does
+abbrev pub AllInUser : ℕ → List Fill → Type 0
+AllInUser user [] = Unit {0}
+AllInUser user (fill ∷ fills) = IsInUser user fill.leaf × AllInUser user fills
 
 -- the newest leaf over a page
-abbrev pub leaf_over : List Standing → ℕ → Option Standing
+abbrev pub leaf_over : List Leaf → ℕ → Option Leaf
 leaf_over [] page = None
-leaf_over (s ∷ leaves) page = if covers s.leaf page then Some s else leaf_over leaves page
-
--- the newest fill that serves an access
-abbrev pub hit : List Standing → Aim → Option Standing
-hit [] a = None
-hit (s ∷ fills) a = if serves s.leaf a then Some s else hit fills a
+leaf_over (leaf ∷ leaves) page = if covers leaf page then Some leaf else leaf_over leaves page

@@ -6,7 +6,6 @@ ghost use Rattle.gm_machine.specs.Flags.{no_flags};
 ghost use Rattle.gm_machine.specs.Fits.{Fits};
 ghost use Rattle.gm_machine.specs.Settled.{orders_of};
 
-use crate::buffers::Buffer;
 use crate::flags::ActorFlags;
 use crate::leaves::Leaves;
 use crate::parts::Parts;
@@ -14,6 +13,7 @@ use crate::slots::SlotList;
 use crate::standing::Phase;
 use gm_base::NoMemory;
 use gm_script::{CommandList, Script};
+use gm_tlb::Tlb;
 use gm_words::Bank;
 use std::alloc::Global;
 
@@ -28,12 +28,12 @@ fn copies(alloc: Global, lists: &[CommandList]) -> Result<Vec<CommandList>, NoMe
     Ok(made)
 }
 
-fn empty_buffers(alloc: Global, count: u32, user: u32) -> Result<Vec<Buffer>, NoMemory>
-    ensures { IfOk result (λ v. v.items ≡ replicate count (record { list = []; user = user })) }
+fn empty_buffers(alloc: Global, count: u32) -> Result<Vec<Tlb>, NoMemory>
+    ensures { IfOk result (λ v. v.items ≡ replicate count []) }
 {
     let mut made = Vec::new(alloc);
     for k in 0..count {
-        let buffer = Buffer::new(alloc, user)?;
+        let buffer = Tlb::new(alloc)?;
         made.push(buffer)?;
     }
     Ok(made)
@@ -60,7 +60,7 @@ pub fn fresh(alloc: Global, script: &Script) -> Result<Parts, NoMemory>
     let callers = copies(alloc, script.callers())?;
     let user = Bank::new(alloc, setup.user)?;
     let phases = repeated(alloc, Phase::Outside, setup.vcpus)?;
-    let buffers = empty_buffers(alloc, setup.vcpus, setup.user)?;
+    let buffers = empty_buffers(alloc, setup.vcpus)?;
     let ended = repeated(alloc, 0usize, setup.vcpus)?;
     let answered = repeated(alloc, 0usize, setup.callers)?;
     let gone = ActorFlags::new(alloc, setup.vcpus, setup.callers)?;

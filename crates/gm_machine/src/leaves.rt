@@ -3,15 +3,14 @@
 ghost use Rattle.std.specs.Prelude.{◌≡◌, ◌+◌, ◌<◌, ◌≤◌, ◌∷◌, [], OnOk, OnErr, IfSome, reverse, All};
 ghost use Rattle.gm_machine.specs.Kept.{leaf_over, IsInUser};
 
-use crate::standing::Standing;
-use gm_base::NoMemory;
+use gm_base::{Leaf, NoMemory};
 use std::alloc::Global;
 use std::marker::Model;
 
 /// The leaves, and how many more can be added without memory. They map user pages below `user`.
 #[derive(Drop)]
 pub struct Leaves {
-    items: Vec<Standing>,
+    items: Vec<Leaf>,
     spare: u64,
     user: u32,
 }
@@ -55,7 +54,7 @@ impl Leaves {
     }
 
     /// Adds a leaf.
-    pub fn install(&mut self, leaf: Standing)
+    pub fn install(&mut self, leaf: Leaf)
         requires room { 0 < self.old.spare }
         requires user { IsInUser self.old.user leaf }
         ensures list { self.new.list ≡ leaf ∷ self.old.list }
@@ -69,7 +68,7 @@ impl Leaves {
     }
 
     /// The newest leaf over a page.
-    pub fn walk(&self, page: u64) -> Option<Standing>
+    pub fn walk(&self, page: u64) -> Option<Leaf>
         ensures leaf { result ≡ leaf_over self.now.list page }
         ensures user { IfSome result (IsInUser self.now.user) }
     {
@@ -78,15 +77,15 @@ impl Leaves {
 }
 
 // The last leaf of the list over the page.
-fn newest_leaf(items: &[Standing], page: u64, user: u32) -> Option<Standing>
+fn newest_leaf(items: &[Leaf], page: u64, user: u32) -> Option<Leaf>
     requires { All (IsInUser user) items.now }
     ensures leaf { result ≡ leaf_over (reverse items.now) page }
     ensures user { IfSome result (IsInUser user) }
 {
     let mut found = None;
-    for standing in items {
-        if standing.leaf.covers(page) {
-            found = Some(*standing);
+    for leaf in items {
+        if leaf.covers(page) {
+            found = Some(*leaf);
         }
     }
     found

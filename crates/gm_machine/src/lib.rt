@@ -1,7 +1,6 @@
 //! The core: its turns, and the history that it keeps.
 #![tactic(auto)]
 
-mod buffers;
 mod caller_turns;
 mod flags;
 mod fresh;

@@ -8,14 +8,14 @@ ghost use Rattle.gm_machine.specs.Kept.{IsInUser, IsBounded};
 ghost use Rattle.gm_machine.specs.Flags.{with_flag};
 ghost use Rattle.gm_machine.specs.Fits.{Fits, PhaseFits, Rest};
 
-use crate::buffers::Buffer;
 use crate::flags::ActorFlags;
 use crate::leaves::Leaves;
 use crate::slots::SlotList;
-use crate::standing::{Phase, Standing};
-use gm_base::{Actor, Command, Setup};
+use crate::standing::Phase;
+use gm_base::{Actor, Command, Leaf, Setup};
 use gm_flat::SlotView;
 use gm_script::CommandList;
+use gm_tlb::{Fill, Tlb};
 use gm_words::Bank;
 
 /// The setup and each actor's commands, the slots, the leaves and user memory; for each vCPU where it stands, its
@@ -29,7 +29,7 @@ pub struct Parts {
     pub leaves: Leaves,
     pub user: Bank,
     pub phases: Vec<Phase>,
-    pub buffers: Vec<Buffer>,
+    pub buffers: Vec<Tlb>,
     pub ended: Vec<usize>,
     pub answered: Vec<usize>,
     pub gone: ActorFlags,
@@ -95,9 +95,9 @@ pub fn end_call(parts: &mut Parts, c: u32)
 }
 
 /// The vCPU's buffer gets a fill.
-pub fn fill_buffer(parts: &mut Parts, v: u32, fill: Standing)
+pub fn fill_buffer(parts: &mut Parts, v: u32, fill: Fill)
     requires fits { Fits parts.old }
-    requires fill { IsInUser parts.old.setup.user fill }
+    requires fill { IsInUser parts.old.setup.user fill.leaf }
     requires actor { v < parts.old.setup.vcpus }
     ensures fits { Fits parts.new }
     ensures rest { Rest parts.old parts.new }
@@ -131,7 +131,7 @@ pub fn leave(parts: &mut Parts, actor: Actor)
 }
 
 /// A leaf is installed.
-pub fn install_leaf(parts: &mut Parts, leaf: Standing)
+pub fn install_leaf(parts: &mut Parts, leaf: Leaf)
     requires fits { Fits parts.old }
     requires leaf { IsInUser parts.old.setup.user leaf }
     requires room { 0 < parts.old.leaves.spare }

@@ -7,17 +7,18 @@ ghost use Rattle.gm_machine.specs.Kept.{IsInUser};
 ghost use Rattle.gm_machine.specs.Fits.{Fits, TicketFits, LookFits, BackingFits, ServedFits, Turned, TurnsTo};
 
 use crate::parts::{Parts, end_access, fill_buffer, install_leaf, leave, next_access, stand, write_word};
-use crate::standing::{Phase, Standing};
+use crate::standing::Phase;
 use gm_base::{
     Access, Actor, Command, KVM_MEM_READONLY, Kind, Leaf, Level, Op, Place,
 };
 use gm_fault::{Route, Ticket, decide};
 use gm_flat::{Backing, Exit, Looked, Sampled, SlotView, What};
+use gm_tlb::Fill;
 
 // What serves an access: a fill of the buffer, or a leaf.
 enum Served {
-    Fill(Standing),
-    Walk(Standing),
+    Fill(Fill),
+    Walk(Fill),
     Nothing,
 }
 
@@ -108,15 +109,12 @@ fn serving(parts: &Parts, v: u32, access: Access, at: u64) -> Served
     ensures { ServedFits parts.now.setup.user result }
 {
     let buffer = &parts.buffers[v as usize];
-    match buffer.hit(access) {
+    match buffer.hit(&access) {
         Some(fill) => Served::Fill(fill),
         None => match parts.leaves.walk(access.page().number()) {
-            Some(standing) => {
-                if standing.leaf.serves(access) {
-                    Served::Walk(Standing {
-                        at,
-                        leaf: standing.leaf,
-                    })
+            Some(leaf) => {
+                if leaf.serves(access) {
+                    Served::Walk(Fill { leaf, at })
                 } else {
                     Served::Nothing
                 }
@@ -127,9 +125,9 @@ fn serving(parts: &Parts, v: u32, access: Access, at: u64) -> Served
 }
 
 // The access reads or writes its word, and is ended.
-fn touch(parts: &mut Parts, v: u32, access: Access, fill: Standing) -> What
+fn touch(parts: &mut Parts, v: u32, access: Access, fill: Fill) -> What
     requires fits { Fits parts.old }
-    requires fill { IsInUser parts.old.setup.user fill }
+    requires fill { IsInUser parts.old.setup.user fill.leaf }
     requires actor { v < parts.old.setup.vcpus }
     ensures { Turned parts.old parts.new (Vcpu v) result }
 {
@@ -146,8 +144,8 @@ fn touch(parts: &mut Parts, v: u32, access: Access, fill: Standing) -> What
 }
 
 // The user page that the fill maps.
-fn user_page(fill: Standing, user: u32) -> u32
-    requires { IsInUser user fill }
+fn user_page(fill: Fill, user: u32) -> u32
+    requires { IsInUser user fill.leaf }
     ensures page { fill.leaf.place ≡ Place.User result }
     ensures below { result < user }
 {
@@ -188,7 +186,7 @@ fn turn_faulting(parts: &mut Parts, v: u32, ticket: Ticket, at: u64) -> What
         (Some(_), None) => look(parts, v, ticket, at),
         (Some(_), Some(looked)) => match ticket.backing {
             None => take_route(parts, v, ticket, looked),
-            Some(backing) => install(parts, v, ticket, looked, backing, at),
+            Some(backing) => install(parts, v, ticket, looked, backing),
         },
     }
 }
@@ -270,14 +268,7 @@ fn get(parts: &mut Parts, v: u32, ticket: Ticket, page: u64) -> What
     What::Get { backing, fresh: 0 }
 }
 
-fn install(
-    parts: &mut Parts,
-    v: u32,
-    ticket: Ticket,
-    looked: Looked,
-    backing: Backing,
-    at: u64,
-) -> What
+fn install(parts: &mut Parts, v: u32, ticket: Ticket, looked: Looked, backing: Backing) -> What
     requires fits { Fits parts.old }
     requires backing { BackingFits parts.old.setup.user backing }
     requires actor { v < parts.old.setup.vcpus }
@@ -296,7 +287,7 @@ fn install(
         place,
         writable: is_writable(looked.slot),
     };
-    install_leaf(parts, Standing { at, leaf });
+    install_leaf(parts, leaf);
     stand(parts, v, Phase::Outside);
     What::Install {
         page,
