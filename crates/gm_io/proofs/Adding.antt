@@ -1,5 +1,5 @@
 -- Lemmas on calls that append text, one after another.
-use Rattle.std.proofs.Common.{◌≡◌, ℕ, ◌+◌, ◌≤◌, List, [], ◌∷◌, ◌++◌, None, Some, refl, append_assoc, append-nil, sym, ◌∙◌, ap, arith, subst, Ok, Err, OnOk}
+use Rattle.std.proofs.Common.{◌≡◌, ℕ, ◌≤◌, List, [], ◌∷◌, ◌++◌, None, Some, refl, append_assoc, append-nil, sym, ◌∙◌, ap, arith, subst, Ok, Err, OnOk}
 use Rattle.std.specs.declared.result.Result.{Result}
 use Rattle.std.specs.declared.option.Option.{Option}
 use Rattle.gm_io.specs.Causes.{HasCause, Rose}

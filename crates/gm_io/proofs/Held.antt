@@ -1,5 +1,5 @@
 -- Lemmas on what sinks hold.
-use Rattle.std.proofs.Common.{◌≡◌, ℕ, ◌+◌, ◌-◌, ◌≤◌, List, [], ◌∷◌, ◌++◌, None, Some, length, take, drop, refl, append_assoc, append-nil, sym, ◌∙◌, ap, arith, subst, take-append-drop, Ok, Err, OnOk}
+use Rattle.std.proofs.Common.{◌≡◌, ℕ, ◌+◌, ◌-◌, ◌≤◌, List, [], ◌++◌, None, Some, length, take, drop, append_assoc, append-nil, sym, ◌∙◌, ap, arith, subst, take-append-drop, Ok, Err, OnOk}
 use Rattle.std.proofs.Math.Seq.{take-add}
 use Rattle.std.proofs.lemmas.List.{drop-drop, take_all}
 use Rattle.std.specs.declared.result.Result.{Result}

@@ -1,5 +1,5 @@
 -- What a call that appends text does to a sink and to the text that waits for it.
-use Rattle.std.specs.Prelude.{ℕ, List, []}
+use Rattle.std.specs.Prelude.{ℕ, List}
 use Rattle.std.specs.declared.option.Option.{Option}
 use Rattle.std.specs.declared.result.Result.{Result}
 use Rattle.gm_io.specs.Causes.{HasCause}

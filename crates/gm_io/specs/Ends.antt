@@ -1,5 +1,5 @@
 -- What contracts see of the ends in memory and over std's readers and writers.
-use Rattle.std.specs.Prelude.{◌≡◌, ℕ, List, Bool, true, false, None, Some}
+use Rattle.std.specs.Prelude.{ℕ, List, Bool, true, false, None, Some}
 use Rattle.std.specs.declared.option.Option.{Option}
 
 -- bytes to be taken, the numbers of the calls that fail, the calls so far and the faults so far

@@ -1,5 +1,5 @@
 -- Fills that map user pages of the machine.
-use Rattle.std.proofs.Common.{◌≡◌, ℕ, List, [], ◌∷◌, Bool, true, false, take, zero, suc, Some, None, IfSome, refl, if◌then◌else◌}
+use Rattle.std.proofs.Common.{ℕ, List, [], ◌∷◌, Bool, true, false, take, zero, suc, Some, IfSome, if◌then◌else◌}
 use Rattle.std.specs.declared.option.Option.{Option}
 use Rattle.gm_base.specs.Aim.{Aim}
 use Rattle.gm_base.specs.Leaf.{serves}

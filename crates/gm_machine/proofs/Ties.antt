@@ -1,5 +1,5 @@
 -- Flags and histories tell the same actors gone.
-use Rattle.std.proofs.Common.{◌≡◌, ◌≢◌, ℕ, ◌+◌, ◌<◌, List, [], ◌∷◌, ◌++◌, Bool, true, false, length, get_or, set, replicate, refl, sym, ◌∙◌, ap, arith, zero, suc, Some, None, if◌then◌else◌, nat_eq}
+use Rattle.std.proofs.Common.{◌≡◌, ℕ, ◌<◌, List, [], ◌∷◌, Bool, true, false, length, get_or, set, replicate, refl, sym, ◌∙◌, ap, arith, zero, suc, Some, None, if◌then◌else◌, nat_eq}
 use Rattle.std.specs.declared.option.Option.{Option}
 use Rattle.std.proofs.lemmas.Bool.Decides.{nat_tests}
 use Rattle.gm_base.specs.Scripts.{IsOf}
@@ -16,7 +16,7 @@ use Rattle.gm_flat.specs.declared.entry.What.TheVariants as what
 use Rattle.gm_machine.specs.Fits.{gone_after, gone_after_call}
 use Rattle.gm_machine.specs.Flags.{Flags, flag_of, with_flag, no_flags}
 use Rattle.gm_machine.specs.Settled.{call_entries, judged_entries, entry_of}
-use Rattle.gm_machine.specs.Steps.{IsTurn, IsBy}
+use Rattle.gm_machine.specs.Steps.{IsTurn}
 use Rattle.gm_machine.specs.declared.caller_turns.CallerTurn.{CallerTurn}
 use Rattle.gm_machine.specs.declared.caller_turns.CallerTurn.TheVariants.{Gone as GoneTurn, Judged}
 

@@ -1,8 +1,8 @@
 -- When the parts of a machine fit one another, and what turns do to them.
-use Rattle.std.specs.Prelude.{◌≡◌, ℕ, ◌<◌, Bool, true, false, List, [], length, slice_index_or, slice_get, Some, None, IfSome}
+use Rattle.std.specs.Prelude.{◌≡◌, ℕ, ◌<◌, true, false, List, length, slice_index_or, slice_get, Some, None, IfSome}
 use Rattle.std.specs.declared.option.Option.{Option}
 use Rattle.gm_base.specs.declared.values.Actor.{Actor}
-use Rattle.gm_base.specs.declared.values.Actor.TheVariants.{Vcpu, Caller}
+use Rattle.gm_base.specs.declared.values.Actor.TheVariants.{Caller}
 use Rattle.gm_base.specs.declared.script.Command.{Command}
 use Rattle.gm_base.specs.declared.values.Kind.TheVariants.{Shared}
 use Rattle.gm_flat.specs.declared.effect.Backing.{Backing}

@@ -1,5 +1,5 @@
 -- A history of turns that were taken one after another.
-use Rattle.std.specs.Prelude.{◌≡◌, ℕ, ◌+◌, Bool, true, false, List, [], ◌∷◌, length, ◌⊎◌}
+use Rattle.std.specs.Prelude.{◌≡◌, ℕ, ◌+◌, true, false, List, [], ◌∷◌, length, ◌⊎◌}
 use Rattle.gm_base.specs.declared.values.Actor.{Actor}
 use Rattle.gm_base.specs.declared.script.Turn.{Turn}
 use Rattle.gm_base.specs.declared.script.Turn.TheVariants.{Next, Kick}

@@ -1,5 +1,5 @@
 -- When the parts of a machine stand for its history, and what a turn does to both.
-use Rattle.std.specs.Prelude.{◌≡◌, ℕ, ◌<◌, ◌≤◌, Bool, true, false, List, [], ◌∷◌, length, Some, None}
+use Rattle.std.specs.Prelude.{◌≡◌, ℕ, ◌<◌, ◌≤◌, Bool, true, false, List, ◌∷◌, length, Some, None}
 use Rattle.std.specs.declared.option.Option.{Option}
 use Rattle.gm_base.specs.Scripts.{Orders, IsOf}
 use Rattle.gm_base.specs.declared.values.Actor.{Actor}

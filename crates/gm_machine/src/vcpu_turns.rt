@@ -6,11 +6,11 @@ ghost use Rattle.gm_machine.specs.Flags.{flag_of};
 ghost use Rattle.gm_machine.specs.Kept.{IsInUser};
 ghost use Rattle.gm_machine.specs.Fits.{Fits, TicketFits, LookFits, BackingFits, ServedFits, Turned, TurnsTo};
 
-use crate::parts::{Parts, end_access, fill_buffer, install_leaf, leave, next_access, stand, write_word};
-use crate::standing::Phase;
-use gm_base::{
-    Access, Actor, Command, KVM_MEM_READONLY, Kind, Leaf, Level, Op, Place,
+use crate::parts::{
+    Parts, end_access, fill_buffer, install_leaf, leave, next_access, stand, write_word,
 };
+use crate::standing::Phase;
+use gm_base::{Access, Actor, Command, KVM_MEM_READONLY, Kind, Leaf, Level, Op, Place};
 use gm_fault::{Route, Ticket, decide};
 use gm_flat::{Backing, Exit, Looked, Sampled, SlotView, What};
 use gm_tlb::Fill;

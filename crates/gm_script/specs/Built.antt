@@ -2,7 +2,7 @@
 use Rattle.std.specs.Prelude.{◌≡◌, ℕ, ◌+◌, ◌/◌, ◌≤◌, [], length, All, IfSome, slice_get, slice_index_or}
 use Rattle.gm_base.specs.declared.calls.Region.{Region}
 use Rattle.gm_base.specs.declared.calls.Ioctl.{Ioctl}
-use Rattle.gm_base.specs.declared.calls.Ioctl.TheVariants.{Region2, Create, Attrs, Punch, Allocate, Close, Populate, Poke, Peek}
+use Rattle.gm_base.specs.declared.calls.Ioctl.TheVariants.{Region2}
 use Rattle.gm_base.specs.declared.script.Command.{Command}
 use Rattle.gm_base.specs.declared.script.Command.TheVariants.{Touch, Call}
 use Rattle.gm_base.specs.declared.numbers.TheConstants.{PAGE_LIMIT, PAGE_BYTES}

@@ -1,6 +1,6 @@
 -- Which bytes form a script, and which script: the forms that are read so far, with words separated by one space and
 -- decimal numbers without leading zeros. (This project's own.)
-use Rattle.std.specs.Prelude.{◌≡◌, ℕ, ◌+◌, ◌-◌, ◌*◌, ◌/◌, ◌%◌, ◌^◌, ◌<◌, ◌≤◌, Bool, true, false, not, ◌&&◌, ◌||◌, nat_eq, nat_lt, nat_le, List, [], ◌∷◌, ◌++◌, length, take, drop, Some, None, if◌then◌else◌, codes, slice_index_or, slice_set}
+use Rattle.std.specs.Prelude.{ℕ, ◌+◌, ◌*◌, ◌/◌, ◌%◌, Bool, false, not, ◌&&◌, nat_eq, nat_lt, nat_le, List, [], ◌∷◌, ◌++◌, length, take, drop, Some, None, if◌then◌else◌, codes, slice_index_or, slice_set}
 use Rattle.std.proofs.Common.{replicate}
 use Rattle.std.specs.declared.option.Option.{Option}
 use Rattle.gm_base.specs.Aim.{Aim}
@@ -14,7 +14,7 @@ use Rattle.gm_base.specs.declared.values.Actor.TheVariants.{Vcpu, Caller}
 use Rattle.gm_base.specs.declared.script.Command.{Command}
 use Rattle.gm_base.specs.declared.script.Command.TheVariants.{Touch, Call}
 use Rattle.gm_base.specs.declared.script.Turn.{Turn}
-use Rattle.gm_base.specs.declared.script.Turn.TheVariants.{Next, Kick}
+use Rattle.gm_base.specs.declared.script.Turn.TheVariants.{Next}
 use Rattle.gm_base.specs.declared.numbers.TheConstants.{MOST_FRAMES, MOST_USER_PAGES, MOST_VCPUS, MOST_CALLERS, MOST_COMMANDS, MOST_TURNS, SLOT_IDS, PAGE_BYTES, WORD_BYTES}
 use Rattle.gm_base.specs.Scripts.{Schedule}
 use Rattle.gm_script.specs.Split.{split_at, word_of, word_count, same_bytes}

@@ -88,11 +88,7 @@ pub fn add_call(draft: &mut Draft, c: Option<u32>, region: Option<Region>) -> Re
 }
 
 /// Adds turns of an actor.
-pub fn add_turns(
-    draft: &mut Draft,
-    actor: Option<Actor>,
-    count: Option<u64>,
-) -> Result<(), Refused>
+pub fn add_turns(draft: &mut Draft, actor: Option<Actor>, count: Option<u64>) -> Result<(), Refused>
     requires even { IsEvenDraft draft.old }
     requires of { IfSome actor (IsOf draft.old.setup) }
     ensures ok { OnOk result (turn_line (draft_of draft.old) actor count ≡ Some (draft_of draft.new)) }

@@ -1,13 +1,9 @@
 -- Texts of lists: the texts of their members, one after another.
 use Rattle.std.proofs.Common.{◌≡◌, ℕ, ◌+◌, ◌<◌, List, [], ◌∷◌, ◌++◌, length, get_or, take, drop, refl, append_assoc, append-nil, sym, ◌∙◌, ap, subst, Ok, Err}
 use Rattle.std.proofs.lemmas.List.{take_more, take-append-drop}
-use Rattle.std.specs.declared.result.Result.{Result}
 use Rattle.gm_io.specs.Adds.{Outlet, Adds}
 use Rattle.gm_io.proofs.Adding.{Adds_after, Adds_longer}
 use Rattle.gm_io.specs.declared.ends.Failed.{Failed}
-use Rattle.gm_base.specs.Extent.{Extent}
-use Rattle.gm_flat.specs.declared.entry.Entry.{Entry}
-use Rattle.gm_text.specs.declared.pieces.Piece.{Piece}
 use Rattle.gm_text.specs.Pieces.{piece_text, text_of}
 use Rattle.gm_text.specs.Text.{span_text, spans_text, entries_text, entry_text}
 

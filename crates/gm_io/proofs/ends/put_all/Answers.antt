@@ -1,4 +1,3 @@
-use Rattle.std.proofs.Common.{◌≡◌, List, ℕ, length, take, drop, Result, Ok, Err, subst, sym}
 use Rattle.gm_io.proofs.Held.{Wrote_of_rest}
 use Rattle.gm_io.proofs.ends.put_all.Goals as goal
 

@@ -1,7 +1,7 @@
-use Rattle.std.proofs.Common.{arith, List, ℕ, length, take, drop, ◌+◌, ◌-◌}
+use Rattle.std.proofs.Common.{arith, take, drop}
 use Rattle.std.proofs.lemmas.List.{take_rest, length-take, length-drop}
 use Rattle.gm_io.specs.Held.{Gains}
-use Rattle.gm_io.proofs.Held.{Gains_more, Gains_kept}
+use Rattle.gm_io.proofs.Held.{Gains_more}
 use Rattle.gm_io.proofs.ends.put_rest.Goals as goal
 
 pub loop-at-preserved : goal.loop-at-preserved

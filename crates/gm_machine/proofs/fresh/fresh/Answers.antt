@@ -1,4 +1,4 @@
-use Rattle.std.proofs.Common.{◌≡◌, ◌<◌, List, [], length, get_or, replicate, sym, ◌∙◌, ap, arith}
+use Rattle.std.proofs.Common.{[], arith}
 use Rattle.std.proofs.lemmas.Grind.{common_steps}
 use Rattle.gm_machine.specs.Fits.{PhaseFits}
 use Rattle.gm_machine.specs.Kept.{AllInUser}

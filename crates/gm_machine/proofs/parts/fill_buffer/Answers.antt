@@ -1,4 +1,4 @@
-use Rattle.std.proofs.Common.{◌<◌, List, length, arith, take}
+use Rattle.std.proofs.Common.{◌<◌, length, arith}
 use Rattle.std.proofs.lemmas.Grind.{common_steps}
 use Rattle.std.proofs.Math.ListN.{length-set}
 use Rattle.gm_machine.specs.Kept.{AllInUser}

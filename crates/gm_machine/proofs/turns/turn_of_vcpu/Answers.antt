@@ -1,4 +1,4 @@
-use Rattle.std.proofs.Common.{◌≡◌, List, sym, ◌∙◌, arith, ap}
+use Rattle.std.proofs.Common.{sym, ◌∙◌}
 use Rattle.gm_base.specs.declared.values.Actor.TheVariants.{Vcpu}
 use Rattle.gm_machine.proofs.Ties.{tied_more, one_turn}
 use Rattle.gm_machine.proofs.turns.turn_of_vcpu.Goals as goal

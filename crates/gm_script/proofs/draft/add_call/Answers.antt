@@ -1,4 +1,4 @@
-use Rattle.std.proofs.Common.{arith, ℕ, ◌≡◌, ◌++◌, ◌∷◌, [], get_or, slice_get, IfSome, Some}
+use Rattle.std.proofs.Common.{arith, ℕ, ◌≡◌, ◌++◌, ◌∷◌, [], get_or, slice_get, IfSome}
 use Rattle.std.proofs.lemmas.Grind.{common_steps}
 use Rattle.gm_base.specs.declared.calls.Ioctl.TheVariants.{Region2}
 use Rattle.gm_base.specs.declared.script.Command.TheVariants.{Call}

@@ -1,8 +1,8 @@
-use Rattle.std.proofs.Common.{arith, ◌≡◌, ◌<◌, ◌≤◌, ◌+◌, ◌-◌, length, take, drop, sym, ◌∙◌, None, Some}
+use Rattle.std.proofs.Common.{arith, ◌≡◌, ◌<◌, ◌+◌, ◌-◌, length, take, drop, None, Some}
 use Rattle.std.proofs.lemmas.Grind.{common_steps}
 use Rattle.std.proofs.lemmas.List.{take_rest}
 use Rattle.gm_script.specs.Split.{split_at, cut_of}
-use Rattle.gm_script.specs.Grammar.{script_of, lines_from, setup_of, script_with, empty_draft}
+use Rattle.gm_script.specs.Grammar.{script_of, lines_from, setup_of}
 use Rattle.gm_script.specs.Drafts.{draft_of}
 use Rattle.gm_script.proofs.LineSplits.{script_more, script_unended, script_none}
 use Rattle.gm_script.proofs.script.read_draft.Goals as goal

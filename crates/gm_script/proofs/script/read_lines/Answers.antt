@@ -1,8 +1,7 @@
-use Rattle.std.proofs.Common.{arith, ◌≡◌, ◌<◌, ◌+◌, length, take, drop, sym, ◌∙◌, None}
+use Rattle.std.proofs.Common.{arith, ◌<◌, ◌+◌, length}
 use Rattle.std.proofs.lemmas.Grind.{common_steps}
 use Rattle.std.proofs.lemmas.List.{take_rest}
-use Rattle.gm_script.specs.Split.{split_at, cut_of}
-use Rattle.gm_script.specs.Grammar.{lines_from, line_of}
+use Rattle.gm_script.specs.Split.{cut_of}
 use Rattle.gm_script.specs.Drafts.{draft_of}
 use Rattle.gm_script.proofs.LineSplits.{lines_more, lines_cut}
 use Rattle.gm_script.proofs.script.read_lines.Goals as goal

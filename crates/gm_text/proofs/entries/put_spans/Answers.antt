@@ -1,4 +1,3 @@
-use Rattle.std.proofs.Common.{Ok, take}
 use Rattle.gm_io.proofs.Adding.{Adds-nil}
 use Rattle.gm_text.specs.Text.{span_text, spans_text}
 use Rattle.gm_text.proofs.Lists.{spans_flat, Adds_next, Adds_fails}

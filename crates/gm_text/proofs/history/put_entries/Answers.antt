@@ -1,4 +1,3 @@
-use Rattle.std.proofs.Common.{Ok, take}
 use Rattle.gm_io.proofs.Adding.{Adds-nil}
 use Rattle.gm_text.specs.Text.{entry_text, entries_text}
 use Rattle.gm_text.proofs.Lists.{entries_flat, Adds_next, Adds_fails}

@@ -1,4 +1,3 @@
-use Rattle.std.proofs.Common.{Ok, take}
 use Rattle.gm_io.proofs.Adding.{Adds-nil}
 use Rattle.gm_text.specs.declared.pieces.Piece.TheVariants.{Number}
 use Rattle.gm_text.specs.Pieces.{piece_text, text_of}

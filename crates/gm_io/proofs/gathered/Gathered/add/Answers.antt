@@ -1,4 +1,4 @@
-use Rattle.std.proofs.Common.{arith, List, ℕ, length, take, drop, ◌+◌}
+use Rattle.std.proofs.Common.{arith, take, drop}
 use Rattle.std.proofs.lemmas.List.{length-drop, take_rest}
 use Rattle.gm_io.specs.Held.{Gains, total}
 use Rattle.gm_io.proofs.Held.{Gains-step, Gains_kept, GainsFront_at, Grows-trans}

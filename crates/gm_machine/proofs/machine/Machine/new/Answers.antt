@@ -1,8 +1,8 @@
-use Rattle.std.proofs.Common.{◌≡◌, sym, ◌∙◌, ap, true, false, arith}
+use Rattle.std.proofs.Common.{◌≡◌, sym, ◌∙◌, ap, true, false}
 use Rattle.std.proofs.lemmas.List.{length-replicate}
 use Rattle.gm_base.specs.Scripts.{Orders}
 use Rattle.gm_base.specs.declared.values.Setup.{Setup}
-use Rattle.gm_machine.specs.Flags.{flag_of, no_flags}
+use Rattle.gm_machine.specs.Flags.{flag_of}
 use Rattle.gm_machine.proofs.Ties.{flag_of-no_flags}
 use Rattle.gm_machine.proofs.machine.Machine.new.Goals as goal
 
