@@ -27,3 +27,6 @@ mod MixedBlock
 mod Contents
 mod Prefix
 pub mod RightIsRuled
+mod Stands
+pub mod Readings
+pub mod MoreReadings
