@@ -19,14 +19,15 @@ mod Folios
 pub mod Fates
 pub mod RuledIsRight
 mod Rows
-mod OneRead
-mod Conversion
-mod FlushPending
-mod HeldPage
-mod MixedBlock
+pub mod OneReadRuled
+pub mod ConversionRuled
+pub mod FlushPendingRuled
+pub mod HeldPageRuled
+pub mod MixedBlockRuled
 mod Contents
 mod Prefix
 pub mod RightIsRuled
 mod Stands
 pub mod Readings
 pub mod MoreReadings
+pub mod WrongBodies

@@ -1,5 +1,5 @@
 -- A right history follows the tables.
-use Rattle.std.proofs.Common.{List, None, Option, Some, [], ap, false, inl, inr, length, refl, subst, true, ℕ, ◌∙◌, ◌∷◌, ◌≡◌}
+use Rattle.std.proofs.Common.{◌+◌, List, None, Option, Some, [], ap, false, inl, inr, length, refl, subst, true, ℕ, ◌∙◌, ◌∷◌, ◌≡◌}
 use Rattle.gm_base.specs.Aim.{Aim}
 use Rattle.gm_base.specs.Extent.{cover}
 use Rattle.gm_base.specs.Scripts.{Orders}
@@ -9,6 +9,7 @@ use Rattle.gm_base.specs.declared.values.Actor.TheVariants.{Caller, Vcpu}
 use Rattle.gm_base.specs.declared.values.Level.{Level}
 use Rattle.gm_flat.specs.FlatState.{Flat, is_live}
 use Rattle.gm_flat.specs.Histories.{Fault, Faulting, NoFault, fault, same_turn}
+use Rattle.gm_flat.specs.Invalidation.{count}
 use Rattle.gm_flat.specs.Mappings.{Mapping, fills, first_serving, leaves}
 use Rattle.gm_flat.specs.NamedPage.{Named, named}
 use Rattle.gm_flat.specs.Replay.{flat, flat_at}
@@ -32,12 +33,15 @@ use Rattle.gm_laws.proofs.Good.{Good}
 use Rattle.gm_laws.proofs.KeepVcpu.{IsFirst, is_first, serves_use}
 use Rattle.gm_laws.proofs.Kit.{by_test, flat_at_all}
 use Rattle.gm_laws.proofs.Locks.{Locks}
+use Rattle.gm_laws.proofs.MoreReadings.{count_is_rest}
 use Rattle.gm_laws.proofs.Prefix.{IsBegun, after_judge, begun_back, loose_first, same_row_actor, whole_begun}
 use Rattle.gm_laws.proofs.Touches.{good, locks}
 use Rattle.gm_laws.specs.Contents.{added_word, last_write, or_else}
 use Rattle.gm_laws.specs.May.{Backs, May, MayInstall, MayRetry, MayTouch, ServedBy}
+use Rattle.gm_laws.specs.Readings.{how_many, is_begin, is_end}
 use Rattle.gm_laws.specs.Ruled.{AllFreed, Follows, Ruled, loosens}
 use Rattle.gm_laws.specs.TouchesNow.{TouchesNow}
+use Rattle.gm_laws.specs.WrongBodies.{at}
 
 -- the facts of a right history, as far as an entry
 pub record Facts_of (o : Orders) (past : List Entry) : Type 0 where
@@ -199,3 +203,6 @@ right_now o past r = each_now o past (ruled o past r).follows
 
 pub right_word : (o : Orders) (past : List Entry) → Right o past → (serial word : ℕ) → folio_word serial word past ≡ or_else (last_write serial word past) (added_word serial word past)
 right_word o past r serial word = word_read o past serial word (ruled o past r).follows
+
+pub right_count : (o : Orders) (past : List Entry) → Right o past → how_many is_begin past ≡ how_many is_end past + count past
+right_count o past r = count_is_rest o past (ruled o past r).follows

@@ -1,6 +1,13 @@
 pub mod Contents
+pub mod Conversion
+pub mod FlushPending
+pub mod HeldPage
 pub mod May
+pub mod MixedBlock
+pub mod OneRead
 pub mod Readings
+pub mod Rows
 pub mod Ruled
 pub mod Stands
 pub mod TouchesNow
+pub mod WrongBodies

@@ -1,0 +1,38 @@
+//! Histories that follow the tables are the right ones, and what holds in them.
+
+ghost use Rattle.std.specs.Prelude.{ℕ, ◌≡◌, ◌+◌, List};
+ghost use Rattle.gm_base.specs.Scripts.{Orders};
+ghost use Rattle.gm_flat.specs.Invalidation.{count};
+ghost use Rattle.gm_flat.specs.RightHistory.{Each, Right};
+ghost use Rattle.gm_flat.specs.Words.{folio_word};
+ghost use Rattle.gm_flat.specs.declared.entry.Entry.{Entry};
+ghost use Rattle.gm_laws.specs.Contents.{added_word, last_write, or_else};
+ghost use Rattle.gm_laws.specs.Readings.{how_many, is_begin, is_end};
+ghost use Rattle.gm_laws.specs.Ruled.{Ruled};
+ghost use Rattle.gm_laws.specs.TouchesNow.{TouchesNow};
+
+/// A history that follows the tables is right.
+pub fn ruled_is_right()
+    ensures { (o : Orders) (past : List Entry) → Ruled o past → Right o past }
+{}
+
+/// A right history follows the tables.
+pub fn right_is_ruled()
+    ensures { (o : Orders) (past : List Entry) → Right o past → Ruled o past }
+{}
+
+/// A touch has what is named at its own position, also while a conversion runs, and by a fill newer than every change on its
+/// page.
+pub fn touches_are_named_now()
+    ensures { (o : Orders) (past : List Entry) → Right o past → Each (λ e p. TouchesNow e.what e.actor p) past }
+{}
+
+/// The word read of a folio is the last one written to it by a touch, else the one that it was added with.
+pub fn words_are_last_written()
+    ensures { (o : Orders) (past : List Entry) → Right o past → (serial word : ℕ) → folio_word serial word past ≡ or_else (last_write serial word past) (added_word serial word past) }
+{}
+
+/// The count of invalidations in progress is the number of Begins less the number of Ends.
+pub fn count_is_begins_less_ends()
+    ensures { (o : Orders) (past : List Entry) → Right o past → how_many is_begin past ≡ how_many is_end past + count past }
+{}
