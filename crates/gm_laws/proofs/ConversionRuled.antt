@@ -11,7 +11,6 @@ use Rattle.gm_flat.specs.declared.effect.Reply.TheVariants.{Good as GoodReply}
 use Rattle.gm_flat.specs.declared.entry.Entry.{Entry}
 use Rattle.gm_flat.specs.declared.entry.What.TheVariants.{Acked, Answer, Begin, Change, End, Enter, Flush, Get, Judge, Left, Look, Miss, Retry, Sample}
 use Rattle.gm_laws.proofs.Kit.{by, none_is}
-use Rattle.gm_laws.proofs.RightIsRuled.{follows}
 use Rattle.gm_laws.proofs.Rows.{false_true, first, further, one_caller, one_holder, one_vcpu, quiet}
 use Rattle.gm_laws.specs.Conversion.{conversion, conversion_orders}
 use Rattle.gm_laws.specs.Ruled.{AllFreed, Follows, Ruled}

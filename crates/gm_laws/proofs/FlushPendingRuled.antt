@@ -12,7 +12,6 @@ use Rattle.gm_flat.specs.declared.effect.Reply.TheVariants.{Good as GoodReply}
 use Rattle.gm_flat.specs.declared.entry.Entry.{Entry}
 use Rattle.gm_flat.specs.declared.entry.What.TheVariants.{Acked, Answer, Begin, Change, End, Enter, Flush, Get, Install, Judge, Left, Look, Miss, Sample, Touch}
 use Rattle.gm_laws.proofs.Kit.{by}
-use Rattle.gm_laws.proofs.RightIsRuled.{follows}
 use Rattle.gm_laws.proofs.Rows.{false_true, first, further, one_caller, one_vcpu, quiet}
 use Rattle.gm_laws.specs.FlushPending.{flush_pending, flush_pending_orders}
 use Rattle.gm_laws.specs.Ruled.{Follows, Ruled}

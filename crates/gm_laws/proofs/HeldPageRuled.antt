@@ -14,7 +14,6 @@ use Rattle.gm_flat.specs.declared.effect.Reply.TheVariants.{Good as GoodReply}
 use Rattle.gm_flat.specs.declared.entry.Entry.{Entry}
 use Rattle.gm_flat.specs.declared.entry.What.TheVariants.{Acked, Answer, Begin, Change, End, Enter, Flush, Free, Get, Install, Judge, Look, Miss, Retry, Sample, Touch}
 use Rattle.gm_laws.proofs.Kit.{by, none_is}
-use Rattle.gm_laws.proofs.RightIsRuled.{follows}
 use Rattle.gm_laws.proofs.Rows.{below, false_true, first, further, one_cached, one_caller, one_holder, one_vcpu, quiet}
 use Rattle.gm_laws.specs.HeldPage.{held_page, held_page_orders}
 use Rattle.gm_laws.specs.Ruled.{AllFreed, Follows, Ruled}

@@ -31,3 +31,4 @@ mod Stands
 pub mod Readings
 pub mod MoreReadings
 pub mod WrongBodies
+pub mod Fronts

@@ -7,7 +7,6 @@ use Rattle.gm_base.specs.declared.values.Kind.TheVariants.{Private, Shared}
 use Rattle.gm_base.specs.declared.values.Level.TheVariants.{Block, Small}
 use Rattle.gm_base.specs.declared.values.Op.TheVariants.{Read}
 use Rattle.gm_flat.specs.FlatState.{cached}
-use Rattle.gm_flat.specs.Locks.{takes}
 use Rattle.gm_flat.specs.NamedPage.{Named, named}
 use Rattle.gm_flat.specs.Replay.{flat}
 use Rattle.gm_flat.specs.RightLevel.{IsFrame}
@@ -20,8 +19,7 @@ use Rattle.gm_flat.specs.declared.views.SlotView.{SlotView}
 use Rattle.gm_laws.proofs.Flats.{with_run_at}
 use Rattle.gm_laws.proofs.Grow.{name_private}
 use Rattle.gm_laws.proofs.Kit.{by}
-use Rattle.gm_laws.proofs.RightIsRuled.{follows}
-use Rattle.gm_laws.proofs.Rows.{below, false_true, first, further, one_caller, one_vcpu, quiet}
+use Rattle.gm_laws.proofs.Rows.{false_true, first, further, one_caller, one_vcpu, quiet}
 use Rattle.gm_laws.specs.MixedBlock.{mixed_block, mixed_block_orders}
 use Rattle.gm_laws.specs.Ruled.{Follows, Ruled}
 
@@ -213,8 +211,8 @@ block_frame k h =
     let t : (leb 0 (0 + k) && ltb (0 + k) (0 + 512)) ≡ true = first_block k h in
     let c : cached 0 ((0 + (0 + k)) - 0) (flat past18).cache ≡ Some (record { serial = 0 + k; frame = 0 + k }) = ap (λ (i : ℕ). cached 0 i (flat past18).cache) (same_index k) ∙ with_run_at 512 k 0 0 0 0 [] h in
     subst (λ (o : Option Named). IsFrame (0 + k) o)
-        (sym (name_private (flat past18) (0 + k) 0 row (record { serial = 0 + k; frame = 0 + k }) (ap (λ (z : Bool). cond z (Some row) None) t) refl (ap (λ (z : Bool). cond z Private Shared) t) c))
-        refl
+    (sym (name_private (flat past18) (0 + k) 0 row (record { serial = 0 + k; frame = 0 + k }) (ap (λ (z : Bool). cond z (Some row) None) t) refl (ap (λ (z : Bool). cond z Private Shared) t) c))
+    refl
 
 abbrev entry19 : Entry
 entry19 = by 13 (Vcpu 0) (Install 0 Block)

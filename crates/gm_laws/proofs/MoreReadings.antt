@@ -14,7 +14,7 @@ use Rattle.gm_flat.specs.Effects.{apply, shut_files, shut_slots, slot_fits, with
 use Rattle.gm_flat.specs.FlatState.{Flat, was_made}
 use Rattle.gm_flat.specs.Histories.{Bracket, Call, bracket, call, is_caller, is_vcpu}
 use Rattle.gm_flat.specs.Invalidation.{count, count_step, ended, ended_step, hull, hull_step, widened, widened_by}
-use Rattle.gm_flat.specs.Mappings.{Mapping, covers, fill_if, fills, fills_step, flushed}
+use Rattle.gm_flat.specs.Mappings.{Mapping, fill_if, fills, fills_step, flushed}
 use Rattle.gm_flat.specs.Replay.{adds, flat, states}
 use Rattle.gm_flat.specs.RightOrder.{Ends}
 use Rattle.gm_flat.specs.Window.{is_on, own_change, own_step, settled, settled_step}
@@ -88,16 +88,14 @@ all_fills_are v m (e ∷ past) = go (all_fills_are v m past)
     go : Among m (all_fills v past) ↔ IsFillSince v m past → Among m (all_fills v (e ∷ past)) ↔ IsFillSince v m (e ∷ past)
     go ih = by_test (flush_of v e)
         (λ y.
-        let none : all_fills v (e ∷ past) ≡ [] = all_yes v e.what e.actor past (all_fills v past) y in
-        (
+        let none : all_fills v (e ∷ past) ≡ [] = all_yes v e.what e.actor past (all_fills v past) y in (
           (λ h. absurd (subst (Among m) none h)),
           (λ h. absurd (too_new 0 m v e past (flush_yes v e.what e.actor (length past) (flushed v past) y) h)),
         ))
         (λ n.
         let are : all_fills v (e ∷ past) ≡ filled_by v e.what e.actor past ++ all_fills v past = all_no v e.what e.actor past (all_fills v past) n in
         let at : flushed v (e ∷ past) ≡ flushed v past = flush_no v e.what e.actor (length past) (flushed v past) n in
-        let split = among_append m (filled_by v e.what e.actor past) (all_fills v past) in
-        (
+        let split = among_append m (filled_by v e.what e.actor past) (all_fills v past) in (
           (λ h. elim (split.0 (subst (Among m) are h)) [
             | inl k ↦ (e, past, inl (refl, refl), subst (λ (z : ℕ). z ≤ length past) (sym at) (flushed-le past v), k)
             | inr k ↦ let x = ih.0 k in (x.0, x.1, inr x.2, subst (λ (z : ℕ). z ≤ length x.1) (sym at) x.3, x.4)
@@ -200,8 +198,7 @@ ended_is_end n (e ∷ past) = go (ended_is_end n past)
     go : (ended n past ≡ true) ↔ HasEndFrom n past → (ended n (e ∷ past) ≡ true) ↔ HasEndFrom n (e ∷ past)
     go ih = by_test (is_end e.what)
         (λ y.
-        let at : ended n (e ∷ past) ≡ (leb n (length past) || ended n past) = ended_yes n (length past) e.what (ended n past) y in
-        (
+        let at : ended n (e ∷ past) ≡ (leb n (length past) || ended n past) = ended_yes n (length past) e.what (ended n past) y in (
           (λ h. elim (or_cases (leb n (length past)) (ended n past) (sym at ∙ h)) [
             | inl k ↦ (e, past, inl (refl, refl), y, leb-true n (length past) k)
             | inr k ↦ older (ih.0 k)
@@ -212,8 +209,7 @@ ended_is_end n (e ∷ past) = go (ended_is_end n past)
           ]),
         ))
         (λ b.
-        let at : ended n (e ∷ past) ≡ ended n past = ended_no n (length past) e.what (ended n past) b in
-        (
+        let at : ended n (e ∷ past) ≡ ended n past = ended_no n (length past) e.what (ended n past) b in (
           (λ h. older (ih.0 (sym at ∙ h))),
           (λ h. at ∙ elim h.2 [
             | inl x ↦ absurd (both_ways (is_end e.what) b (ap (λ (z : Entry). is_end z.what) x.0 ∙ h.3))
@@ -289,7 +285,7 @@ own_upper c page (x ∷ p) e before (inl s) a h f =
     let u : is_caller c x.actor ≡ true = ap (λ (z : Entry). is_caller c z.actor) s.0 ∙ a in
     let w : changes page x.what p ≡ true = ap (λ (z : Entry). changes page z.what p) s.0 ∙ (ap (λ (z : List Entry). changes page e.what z) s.1 ∙ h) in
     subst (λ (z : ℕ). length before < z) (sym (cond-true (is_caller c x.actor) (own_step page x.what p (own_change c page p)) (own_change c page p) u ∙ own_here page x.what p (own_change c page p) w))
-        (subst (λ (z : List Entry). length z < suc (length p)) s.1 (lt_suc (length p)))
+    (subst (λ (z : List Entry). length z < suc (length p)) s.1 (lt_suc (length p)))
   where
     lt_suc : (n : ℕ) → n < suc n
     lt_suc n = omega arith

@@ -11,7 +11,6 @@ use Rattle.gm_flat.specs.declared.effect.Reply.TheVariants.{Good as GoodReply}
 use Rattle.gm_flat.specs.declared.entry.Entry.{Entry}
 use Rattle.gm_flat.specs.declared.entry.What.TheVariants.{Answer, Change, Enter, Get, Install, Judge, Look, Miss, Sample, Touch}
 use Rattle.gm_laws.proofs.Kit.{by}
-use Rattle.gm_laws.proofs.RightIsRuled.{follows}
 use Rattle.gm_laws.proofs.Rows.{false_true, first, further, one_caller, quiet}
 use Rattle.gm_laws.specs.OneRead.{one_read, one_read_orders}
 use Rattle.gm_laws.specs.Ruled.{Follows, Ruled}

@@ -93,8 +93,7 @@ pending_is_begin v (e ∷ past) = go (pending_is_begin v past)
         ))
         (λ n.
         let same : pending v (e ∷ past) ≡ pending v past = pending_same v e.what e.actor (pending v past) b n in
-        let at : flushed v (e ∷ past) ≡ flushed v past = flush_no v e.what e.actor (length past) (flushed v past) n in
-        (
+        let at : flushed v (e ∷ past) ≡ flushed v past = flush_no v e.what e.actor (length past) (flushed v past) n in (
           (λ p. begin_old (flushed v (e ∷ past)) e past (subst (λ (k : ℕ). HasBeginFrom k past) (sym at) (ih.0 (sym same ∙ p)))),
           (λ h. same ∙ ih.1 (begin_less (flushed v (e ∷ past)) (flushed v past) e past b at h)),
         )))
@@ -119,8 +118,7 @@ inside_is_enter v (e ∷ past) = go (inside_is_enter v past)
     go : (inside v past ≡ true) ↔ LastIsEnter v past → (inside v (e ∷ past) ≡ true) ↔ LastIsEnter v (e ∷ past)
     go ih = by_test (move_of v e)
         (λ y.
-        let at : inside v (e ∷ past) ≡ is_enter e.what = move_enter v e.what e.actor (inside v past) y in
-        (
+        let at : inside v (e ∷ past) ≡ is_enter e.what = move_enter v e.what e.actor (inside v past) y in (
           (λ i. (e, past, last_here (move_of v) e past y, sym at ∙ i)),
           (λ h. at ∙ elim h.2.stands [
             | inl x ↦ ap (λ (z : Entry). is_enter z.what) x.0 ∙ h.3
@@ -128,8 +126,7 @@ inside_is_enter v (e ∷ past) = go (inside_is_enter v past)
           ]),
         ))
         (λ n.
-        let same : inside v (e ∷ past) ≡ inside v past = move_no v e.what e.actor (inside v past) n in
-        (
+        let same : inside v (e ∷ past) ≡ inside v past = move_no v e.what e.actor (inside v past) n in (
           (λ i. let x = ih.0 (sym same ∙ i) in (x.0, x.1, last_skip (move_of v) e x.0 x.1 past n x.2, x.3)),
           (λ h. same ∙ ih.1 (elim h.2.stands [
             | inl x ↦ absurd (both_ways (move_of v e) n (ap (move_of v) x.0 ∙ h.2.passes))

@@ -1,7 +1,6 @@
 -- What helps to show by computing that a concrete history follows the tables.
 use Rattle.std.proofs.Common.{◌<◌, Bool, List, None, Option, Some, [], ap, arith, cond, eqb, eqb-true, false, inl, inr, length, refl, subst, true, ℕ, ◌∙◌, ◌∷◌, ◌≡◌, ◌≤◌}
 use Rattle.std.proofs.lemmas.Bool.{both_ways}
-use Rattle.gm_base.specs.Extent.{holds}
 use Rattle.gm_base.specs.Scripts.{IsOf, Orders}
 use Rattle.gm_base.specs.declared.calls.Ioctl.{Ioctl}
 use Rattle.gm_base.specs.declared.values.Actor.{Actor}

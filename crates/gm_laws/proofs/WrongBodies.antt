@@ -4,7 +4,6 @@ use Rattle.std.proofs.lemmas.Bool.{both_ways}
 use Rattle.gm_base.specs.declared.values.Kind.TheVariants.{Private, Shared}
 use Rattle.gm_flat.specs.RightHistory.{Right}
 use Rattle.gm_flat.specs.RightLook.{ToFault, ToMmio}
-use Rattle.gm_laws.proofs.Folios.{lives}
 use Rattle.gm_laws.proofs.Kit.{none_is}
 use Rattle.gm_laws.proofs.Rows.{false_true}
 use Rattle.gm_laws.specs.Conversion.{conversion_orders}

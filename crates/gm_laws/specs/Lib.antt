@@ -2,6 +2,7 @@ pub mod Contents
 pub mod Conversion
 pub mod FlushPending
 pub mod HeldPage
+pub mod LivesEverywhere
 pub mod May
 pub mod MixedBlock
 pub mod OneRead

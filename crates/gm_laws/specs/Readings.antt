@@ -1,12 +1,10 @@
 -- What the readings of a history say, in the words of their definitions.
-use Rattle.std.specs.Prelude.{◌≡◌, ℕ, suc, ◌+◌, ◌<◌, ◌≤◌, ◌↔◌, List, [], ◌∷◌, ◌++◌, Bool, true, false, ◌&&◌, ◌||◌, ◌⊎◌, length, take, Some, None, nat_eq, nat_le, if◌then◌else◌}
+use Rattle.std.specs.Prelude.{◌≡◌, ℕ, suc, ◌<◌, ◌≤◌, List, [], ◌∷◌, ◌++◌, Bool, true, false, ◌&&◌, ◌⊎◌, length, Some, None, nat_eq, nat_le, if◌then◌else◌}
 use Rattle.std.specs.declared.option.Option.{Option}
 use Rattle.gm_base.specs.Extent.{Extent, holds, meets}
-use Rattle.gm_base.specs.declared.numbers.TheConstants.{BUFFER_FILLS}
 use Rattle.gm_base.specs.declared.values.Kind.{Kind}
 use Rattle.gm_base.specs.declared.values.Kind.TheVariants.{Shared}
 use Rattle.gm_base.specs.declared.values.Actor.{Actor}
-use Rattle.gm_base.specs.declared.values.Actor.TheVariants.{Vcpu, Caller}
 use Rattle.gm_flat.specs.declared.effect.Effect.{Effect}
 use Rattle.gm_flat.specs.declared.effect.Effect.TheVariants.{Attr}
 use Rattle.gm_flat.specs.declared.entry.Entry.{Entry}
@@ -19,9 +17,9 @@ use Rattle.gm_flat.specs.NamedPage.{named}
 use Rattle.gm_flat.specs.Histories.{is_vcpu, is_caller}
 use Rattle.gm_flat.specs.Replay.{flat}
 use Rattle.gm_flat.specs.Attribute.{attr_of}
-use Rattle.gm_flat.specs.Mappings.{Mapping, flushed, pending, inside, any_meets, covered, new_leaf, leaves, fills, fill_if}
+use Rattle.gm_flat.specs.Mappings.{Mapping, flushed, any_meets, covered, new_leaf}
 use Rattle.gm_flat.specs.Window.{is_on, settled}
-use Rattle.gm_flat.specs.Invalidation.{count, hull, in_hull, ended}
+use Rattle.gm_flat.specs.Invalidation.{count}
 use Rattle.gm_laws.specs.Stands.{Stands, HasNone, NoneAfter, IsLast}
 
 -- flushed: the position after the vCPU's last Flush, and 0 where there is none

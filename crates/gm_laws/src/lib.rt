@@ -8,11 +8,12 @@ mod rightness;
 
 pub use examples::{worked_rows_follow_the_tables, wrong_bodies_are_refused};
 pub use meanings::{
-    attribute_is_the_last_call, ended_is_an_end, fills_are_the_last_touches,
-    flushed_is_the_last_flush, hull_is_the_least_span, inside_is_the_last_enter,
-    leaves_are_standing_installs, pending_is_a_begin_since, settled_is_the_greatest,
+    all_have_means_each_page, attribute_is_the_last_call, ended_is_an_end,
+    fills_are_the_last_touches, flushed_is_the_last_flush, hull_is_the_least_span,
+    inside_is_the_last_enter, leaves_are_standing_installs, pending_is_a_begin_since,
+    settled_is_the_greatest,
 };
 pub use rightness::{
-    count_is_begins_less_ends, right_is_ruled, ruled_is_right, touches_are_named_now,
-    words_are_last_written,
+    count_is_begins_less_ends, frames_differ_everywhere, fronts_of_right_are_right, right_is_ruled,
+    ruled_is_right, touches_are_named_now, words_are_last_written,
 };

@@ -1,7 +1,11 @@
 //! What the readings of a history say, in the words of their definitions. These laws hold of every list of entries.
 
-ghost use Rattle.std.specs.Prelude.{ℕ, ◌≡◌, ◌↔◌, List, true, take};
+ghost use Rattle.std.specs.Prelude.{ℕ, ◌≡◌, ◌+◌, ◌<◌, ◌↔◌, List, true, take};
 ghost use Rattle.gm_base.specs.declared.numbers.TheConstants.{BUFFER_FILLS};
+ghost use Rattle.gm_base.specs.declared.values.Kind.{Kind};
+ghost use Rattle.gm_flat.specs.Attribute.{attr_of};
+ghost use Rattle.gm_flat.specs.Calls.{all_have};
+ghost use Rattle.gm_flat.specs.FlatState.{AttrCall};
 ghost use Rattle.gm_flat.specs.Invalidation.{ended, hull};
 ghost use Rattle.gm_flat.specs.Mappings.{Mapping, fills, flushed, inside, leaves, pending};
 ghost use Rattle.gm_flat.specs.declared.entry.Entry.{Entry};
@@ -53,4 +57,9 @@ pub fn attribute_is_the_last_call()
 pub fn settled_is_the_greatest()
     ensures bound { (page : ℕ) (past : List Entry) → SettledIsLeast page past }
     ensures reached { (page : ℕ) (past : List Entry) → SettledIsOne page past }
+{}
+
+/// `all_have` is true exactly where each page of the range has the kind.
+pub fn all_have_means_each_page()
+    ensures { (kind : Kind) (page n : ℕ) (calls : List AttrCall) → (all_have kind page n calls ≡ true) ↔ ((k : ℕ) → k < n → attr_of (page + k) calls ≡ kind) }
 {}
