@@ -26,7 +26,7 @@ use Rattle.gm_flat.specs.declared.effect.Backing.{Backing}
 use Rattle.gm_flat.specs.declared.entry.Entry.{Entry}
 use Rattle.gm_flat.specs.declared.entry.What.TheVariants.{Install, Touch}
 use Rattle.gm_laws.proofs.Flats.{named_kind}
-use Rattle.gm_laws.proofs.Good.{FillAt, Gives, Good, InHull, KindIs, Since, FaultOk, fill_at_more, from_more, looks_more, since_more}
+use Rattle.gm_laws.proofs.Good.{FaultOk, FillAt, Gives, Good, InHull, KindIs, Since, fill_at_more, from_more, looks_more, since_more}
 use Rattle.gm_laws.proofs.Grow.{ended-mono}
 use Rattle.gm_laws.proofs.Ids.{IdsAt}
 use Rattle.gm_laws.proofs.Keep.{faults_keep}
@@ -34,17 +34,17 @@ use Rattle.gm_laws.proofs.Kit.{Mem, Mem-off_extent, Mem-take, apart_page, by, ch
 use Rattle.gm_laws.specs.May.{Backs, May, MayInstall, ServedBy}
 
 -- an install
-abbrev IsNewLeaf : Mapping → ℕ → ℕ → Level → Flat → Fault → Type 0
+abbrev pub IsNewLeaf : Mapping → ℕ → ℕ → Level → Flat → Fault → Type 0
 IsNewLeaf l n page level f (Faulting a m s k (Some q)) = l ≡ record { made = n; page = page; level = level; kind = a.kind; gives = λ h. named f h }
 IsNewLeaf l n page level f _ = ⊥
 
-Mem-install : (l : Mapping) (n page : ℕ) (level : Level) (f : Flat) (st : Fault) (ls : List Mapping) → Mem l (leaf_by n page level f st ++ ls) → IsNewLeaf l n page level f st ⊎ Mem l ls
+pub Mem-install : (l : Mapping) (n page : ℕ) (level : Level) (f : Flat) (st : Fault) (ls : List Mapping) → Mem l (leaf_by n page level f st ++ ls) → IsNewLeaf l n page level f st ⊎ Mem l ls
 Mem-install l n page level f (Faulting a m s k (Some q)) ls i = i
 Mem-install l n page level f (Faulting a m s k None) ls i = inr i
 Mem-install l n page level f NoFault ls i = inr i
 
 -- what a fault that isn't stale got is named now
-use_now : (past : List Entry) (s k g : ℕ) (a : Aim) (b : Backing) (o : Option Named) → Since past → s ≤ k → k ≤ length past → named (flat_at k past) g ≡ o → stale (Some s) g past ≡ false → CanUse a b o → CanUse a b (named (flat past) g)
+pub use_now : (past : List Entry) (s k g : ℕ) (a : Aim) (b : Backing) (o : Option Named) → Since past → s ≤ k → k ≤ length past → named (flat_at k past) g ≡ o → stale (Some s) g past ≡ false → CanUse a b o → CanUse a b (named (flat past) g)
 use_now past s k g a b None h le lt e f u = absurd u
 use_now past s k g a b (Some m) h le lt e f u =
     elim (h k g m lt e) [

@@ -32,3 +32,8 @@ pub mod Readings
 pub mod MoreReadings
 pub mod WrongBodies
 pub mod Fronts
+pub mod Parts
+pub mod MoveAndDeletionRuled
+pub mod PopulationAndCloseRuled
+pub mod OneReadPlays
+pub mod FlushPendingPlays

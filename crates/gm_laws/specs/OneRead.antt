@@ -3,6 +3,8 @@ use Rattle.std.specs.Prelude.{List, None, Some, [], false, ◌∷◌}
 use Rattle.gm_base.specs.Scripts.{Orders}
 use Rattle.gm_base.specs.declared.calls.Ioctl.TheVariants.{Region2}
 use Rattle.gm_base.specs.declared.script.Command.TheVariants.{Call as CallCommand, Touch as TouchCommand}
+use Rattle.gm_base.specs.declared.script.Turn.{Turn}
+use Rattle.gm_base.specs.declared.script.Turn.TheVariants.{Next}
 use Rattle.gm_base.specs.declared.values.Actor.TheVariants.{Caller, Vcpu}
 use Rattle.gm_base.specs.declared.values.Kind.TheVariants.{Shared}
 use Rattle.gm_base.specs.declared.values.Level.TheVariants.{Small}
@@ -32,3 +34,7 @@ one_read =
     entry 1 (Caller 0) (Change (Slot 0 0 4 0 0 None 0)) ∷
     entry 1 (Caller 0) (Judge (Region2 (record { slot = 0; flags = 0; gpa = 0; size = 16384; user = 0; fd = 0; offset = 0 }))) ∷
     []
+
+-- the turns of its script
+abbrev pub one_read_turns : List Turn
+one_read_turns = Next (Caller 0) ∷ Next (Vcpu 0) ∷ Next (Vcpu 0) ∷ Next (Vcpu 0) ∷ Next (Vcpu 0) ∷ Next (Vcpu 0) ∷ Next (Vcpu 0) ∷ Next (Vcpu 0) ∷ Next (Vcpu 0) ∷ []

@@ -6,7 +6,9 @@ mod examples;
 mod meanings;
 mod rightness;
 
-pub use examples::{worked_rows_follow_the_tables, wrong_bodies_are_refused};
+pub use examples::{
+    worked_rows_follow_the_tables, worked_rows_play_their_turns, wrong_bodies_are_refused,
+};
 pub use meanings::{
     all_have_means_each_page, attribute_is_the_last_call, ended_is_an_end,
     fills_are_the_last_touches, flushed_is_the_last_flush, hull_is_the_least_span,
@@ -14,6 +16,6 @@ pub use meanings::{
     settled_is_the_greatest,
 };
 pub use rightness::{
-    count_is_begins_less_ends, frames_differ_everywhere, fronts_of_right_are_right, right_is_ruled,
-    ruled_is_right, touches_are_named_now, words_are_last_written,
+    count_is_begins_less_ends, frames_differ_everywhere, fronts_of_right_are_right,
+    invariant_holds, right_is_ruled, ruled_is_right, touches_are_named_now, words_are_last_written,
 };

@@ -8,6 +8,7 @@ ghost use Rattle.gm_flat.specs.RightHistory.{Each, Right};
 ghost use Rattle.gm_flat.specs.Words.{folio_word};
 ghost use Rattle.gm_flat.specs.declared.entry.Entry.{Entry};
 ghost use Rattle.gm_laws.specs.Contents.{added_word, last_write, or_else};
+ghost use Rattle.gm_laws.specs.Invariant.{Invariant};
 ghost use Rattle.gm_laws.specs.LivesEverywhere.{LivesEverywhere};
 ghost use Rattle.gm_laws.specs.Readings.{how_many, is_begin, is_end};
 ghost use Rattle.gm_laws.specs.Ruled.{Ruled};
@@ -50,4 +51,12 @@ pub fn fronts_of_right_are_right()
 pub fn frames_differ_everywhere()
     ensures now { (o : Orders) (past : List Entry) → Right o past → LivesEverywhere past }
     ensures before { (o : Orders) (e : Entry) (front past : List Entry) → Right o past → Stands e front past → LivesEverywhere front }
+{}
+
+/// At every position of a right history, also inside a turn: leaves name what is named now; no leaf lies under a bracket; a
+/// fill gives what was named then, and is still named, or its vCPU is outside and flushes first; a vCPU inside has flushed
+/// since each acknowledged Begin; and a fault is stale, or what it looked up and got is true.
+pub fn invariant_holds()
+    ensures now { (o : Orders) (past : List Entry) → Right o past → Invariant past }
+    ensures before { (o : Orders) (e : Entry) (front past : List Entry) → Right o past → Stands e front past → Invariant front }
 {}
