@@ -1,5 +1,5 @@
 -- *right touch*: an access reads or writes what slot, binding and attribute named at a recorded position in its window.
--- (This project's own statement of what stage two and a translation buffer may do.)
+-- (This project's own statement of what second-level mappings and a translation buffer may do.)
 use Rattle.std.specs.Prelude.{◌≡◌, ℕ, ◌≤◌, List, true, length, Some, None}
 use Rattle.std.specs.declared.option.Option.{Option}
 use Rattle.gm_base.specs.Aim.{Aim}

@@ -4,11 +4,10 @@ use Rattle.std.proofs.lemmas.Bool.{and_parts}
 use Rattle.gm_base.specs.Aim.{Aim}
 use Rattle.gm_base.specs.declared.values.Folio.{Folio}
 use Rattle.gm_base.specs.declared.values.Setup.{Setup}
-use Rattle.gm_flat.specs.Calls.{Bracketed, PagePlan, Paged, Plan, Reads, Refused, Same, Short, plan}
+use Rattle.gm_flat.specs.Calls.{Bracketed, PagePlan, Paged, Plan, Reads, Refused, Same, Short}
 use Rattle.gm_flat.specs.Effects.{Addition, Source, add, addition_fits, fresh_run, get_addition, if_fits, page_addition, source, with_run}
 use Rattle.gm_flat.specs.FlatState.{FileState, Flat, Triple, cached}
 use Rattle.gm_flat.specs.Histories.{Call, Fault, Faulting, NoFault, Seen}
-use Rattle.gm_flat.specs.Locks.{takes}
 use Rattle.gm_flat.specs.NamedPage.{Named, named}
 use Rattle.gm_flat.specs.Replay.{adds, flat, flat_at, get_adds, index_in, looked_slot, page_adds, states}
 use Rattle.gm_flat.specs.RightCalls.{IsPage, IsPageOf, RightPage}

@@ -10,7 +10,7 @@ use Rattle.gm_base.specs.declared.values.Folio.{Folio}
 use Rattle.gm_base.specs.declared.values.Op.{Op}
 use Rattle.gm_base.specs.declared.values.Op.TheVariants.{Read, Write}
 use Rattle.gm_base.specs.declared.values.Setup.{Setup}
-use Rattle.gm_flat.specs.Calls.{Bracketed, Paged, Plan, Reads, Refused, Same, Short, plan}
+use Rattle.gm_flat.specs.Calls.{Bracketed, Paged, Plan, Reads, Refused, Same, Short}
 use Rattle.gm_flat.specs.Effects.{Addition, add, apply, are_added, free_each, free_one, free_run, with_folios}
 use Rattle.gm_flat.specs.FlatState.{Flat, FolioState, added, is_live}
 use Rattle.gm_flat.specs.Histories.{Call, Fault, Faulting, NoFault, call, fault}

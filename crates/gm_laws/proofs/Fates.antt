@@ -195,7 +195,7 @@ used_keep o t (Get b k) (Vcpu u) past s n i g m (inl c) = inl (add_keeps (adds (
 used_keep o t (Get b k) (Vcpu u) past s n i g m (inr h) = inr (h.0, cond_held s (eqb u h.0) (with_get (record { after = suc (length past); backing = b }) (fault h.0 past)) (fault h.0 past) (λ e q. absurd (looked_hold s (fault h.0 past) (at_vcpu u h.0 (λ x. IsLooked (fault x past)) e m.0) q)) h.1)
 used_keep o t (Install page level) (Vcpu u) past s n i g m (inl c) = inl c
 used_keep o t (Install page level) (Vcpu u) past s n i g m (inr h) =
-    elim (install_used s u page past h.0 (eqb u h.0) refl (installed page past (fault u past) g.since (g.stages u) m.0) h.1) [
+    elim (install_used s u page past h.0 (eqb u h.0) refl (installed page past (fault u past) g.since (g.faults u) m.0) h.1) [
       | inl c ↦ inl c
       | inr k ↦ inr (h.0, k)
     ]

@@ -7,7 +7,7 @@ use Rattle.gm_base.specs.declared.values.Actor.{Actor}
 use Rattle.gm_base.specs.declared.values.Actor.TheVariants.{Caller, Vcpu}
 use Rattle.gm_base.specs.declared.values.Folio.{Folio}
 use Rattle.gm_base.specs.declared.values.Setup.{Setup}
-use Rattle.gm_flat.specs.Calls.{Bracketed, PagePlan, Paged, Plan, Reads, Refused, Same, Short, plan}
+use Rattle.gm_flat.specs.Calls.{Bracketed, PagePlan, Paged, Plan, Reads, Refused, Same, Short}
 use Rattle.gm_flat.specs.Effects.{Addition, add, apply, get_addition, is_cut, shut_files, shut_slots, slot_fits, with_run, without, without_file}
 use Rattle.gm_flat.specs.FlatState.{Flat, Triple, cached, is_free, is_live, is_triple, was_made}
 use Rattle.gm_flat.specs.Histories.{Call, Fault, Faulting, Gotten, NoFault, Seen, call, fault, is_vcpu, with_get, with_look, with_sample}

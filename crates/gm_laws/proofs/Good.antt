@@ -95,13 +95,13 @@ pub record GotOk (a : Aim) (s : ℕ) (g : Gotten) (past : List Entry) : Type 0 w
   pub after_le : g.after ≤ length past
   pub usable : (stale (Some s) a.page past ≡ true) ⊎ CanUse a g.backing (named (flat_at g.after past) a.page)
 
-abbrev pub StageOk : List Entry → Fault → Type 0
-StageOk past (Faulting a m (Some s) (Some l) None) = LookOk a s l past
-StageOk past (Faulting a m (Some s) (Some l) (Some g)) = GotOk a s g past
-StageOk past _ = Unit {0}
+abbrev pub FaultOk : List Entry → Fault → Type 0
+FaultOk past (Faulting a m (Some s) (Some l) None) = LookOk a s l past
+FaultOk past (Faulting a m (Some s) (Some l) (Some g)) = GotOk a s g past
+FaultOk past _ = Unit {0}
 
-abbrev pub Stages : List Entry → Type 0
-Stages past = (v : ℕ) → StageOk past (fault v past)
+abbrev pub FaultsOk : List Entry → Type 0
+FaultsOk past = (v : ℕ) → FaultOk past (fault v past)
 
 pub record Good (n : ℕ) (past : List Entry) : Type 0 where
   pub count_is : CountIs n past
@@ -117,7 +117,7 @@ pub record Good (n : ℕ) (past : List Entry) : Type 0 where
   pub fill_names : FillNames past
   pub since : Since past
   pub looks : LooksSince past
-  pub stages : Stages past
+  pub faults : FaultsOk past
 
 -- one more entry, whatever it is
 pub from_more : (n : ℕ) (past : List Entry) → FromLt n past → (c : ℕ) (b : Bracket) → bracket c past ≡ Some b → (c < n) × (b.begun < suc (length past))

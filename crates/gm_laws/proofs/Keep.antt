@@ -23,16 +23,16 @@ use Rattle.gm_flat.specs.declared.entry.Entry.{Entry}
 use Rattle.gm_flat.specs.declared.entry.What.{What}
 use Rattle.gm_flat.specs.declared.entry.What.TheVariants.{Enter, Flush, Get, Gone, Install, Left, Look, Miss, Retry, Sample}
 use Rattle.gm_laws.proofs.Flats.{over}
-use Rattle.gm_laws.proofs.Good.{Good, GotOk, HullNone, LookOk, LooksSince, StageOk, Stages, fill_at_more, from_more, looks_more, since_more}
+use Rattle.gm_laws.proofs.Good.{Good, GotOk, HullNone, LookOk, LooksSince, FaultOk, FaultsOk, fill_at_more, from_more, looks_more, since_more}
 use Rattle.gm_laws.proofs.Grow.{get_ok, stale_keep}
 use Rattle.gm_laws.proofs.Ids.{IdsAt}
 use Rattle.gm_laws.proofs.Kit.{Mem, by, flat_at_here, flat_at_keep}
 use Rattle.gm_laws.specs.May.{May}
 
 -- faults
-cond_stage : (past : List Entry) (t : Bool) (x y : Fault) → (t ≡ true → StageOk past x) → StageOk past y → StageOk past (cond t x y)
-cond_stage past true x y f h = f refl
-cond_stage past false x y f h = h
+cond_fault : (past : List Entry) (t : Bool) (x y : Fault) → (t ≡ true → FaultOk past x) → FaultOk past y → FaultOk past (cond t x y)
+cond_fault past true x y f h = f refl
+cond_fault past false x y f h = h
 
 look_more : (e : Entry) (a : Aim) (s : ℕ) (l : Seen) (past : List Entry) → LookOk a s l past → LookOk a s l (e ∷ past)
 look_more e a s l past x =
@@ -57,22 +57,22 @@ got_more t w x a s q past none h =
       ];
     }
 
-stage_more : (t : ℕ) (w : What) (a : Actor) (past : List Entry) (st : Fault) → HullNone past → StageOk past st → StageOk (by t a w ∷ past) st
-stage_more t w a past NoFault none x = tt
-stage_more t w a past (Faulting c m None l q) none x = tt
-stage_more t w a past (Faulting c m (Some s) None q) none x = tt
-stage_more t w a past (Faulting c m (Some s) (Some l) None) none x = look_more (by t a w) c s l past x
-stage_more t w a past (Faulting c m (Some s) (Some l) (Some q)) none x = got_more t w a c s q past none x
+fault_more : (t : ℕ) (w : What) (a : Actor) (past : List Entry) (st : Fault) → HullNone past → FaultOk past st → FaultOk (by t a w ∷ past) st
+fault_more t w a past NoFault none x = tt
+fault_more t w a past (Faulting c m None l q) none x = tt
+fault_more t w a past (Faulting c m (Some s) None q) none x = tt
+fault_more t w a past (Faulting c m (Some s) (Some l) None) none x = look_more (by t a w) c s l past x
+fault_more t w a past (Faulting c m (Some s) (Some l) (Some q)) none x = got_more t w a c s q past none x
 
-sample_stage : (past : List Entry) (s : ℕ) (x : Fault) → IsMissed x → StageOk past (with_sample s x)
-sample_stage past s NoFault i = absurd i
-sample_stage past s (Faulting a m None None None) i = tt
-sample_stage past s (Faulting a m None None (Some q)) i = absurd i
-sample_stage past s (Faulting a m None (Some l) q) i = absurd i
-sample_stage past s (Faulting a m (Some k) l q) i = absurd i
+sample_fault : (past : List Entry) (s : ℕ) (x : Fault) → IsMissed x → FaultOk past (with_sample s x)
+sample_fault past s NoFault i = absurd i
+sample_fault past s (Faulting a m None None None) i = tt
+sample_fault past s (Faulting a m None None (Some q)) i = absurd i
+sample_fault past s (Faulting a m None (Some l) q) i = absurd i
+sample_fault past s (Faulting a m (Some k) l q) i = absurd i
 
-look_stage : (past : List Entry) (at : ℕ) (slot : Option ℕ) (attr : Kind) (file : Option ℕ) (e : Entry) (x : Fault) → IsSampled x → RightSeen at slot attr file past x → StageOk (e ∷ past) (with_look (record { place = length past; at = at; slot = slot; attr = attr; file = file }) x)
-look_stage past at slot attr file e (Faulting a m (Some s) None None) i r =
+look_fault : (past : List Entry) (at : ℕ) (slot : Option ℕ) (attr : Kind) (file : Option ℕ) (e : Entry) (x : Fault) → IsSampled x → RightSeen at slot attr file past x → FaultOk (e ∷ past) (with_look (record { place = length past; at = at; slot = slot; attr = attr; file = file }) x)
+look_fault past at slot attr file e (Faulting a m (Some s) None None) i r =
     let same : flat_at at (e ∷ past) ≡ flat_at at past = flat_at_keep at e past r.so_far in
     record {
       sampled = r.after_sample;
@@ -82,13 +82,13 @@ look_stage past at slot attr file e (Faulting a m (Some s) None None) i r =
       file_is = r.right_file ∙ ap (λ (f : Flat). file_of (over a.page f.slots)) (sym same);
       attr_is = r.right_attr ∙ ap (λ (f : Flat). attr_of a.page f.attrs) (sym same);
     }
-look_stage past at slot attr file e (Faulting a m (Some s) None (Some q)) i r = absurd i
-look_stage past at slot attr file e (Faulting a m (Some s) (Some l) q) i r = absurd i
-look_stage past at slot attr file e (Faulting a m None l q) i r = absurd i
-look_stage past at slot attr file e NoFault i r = absurd i
+look_fault past at slot attr file e (Faulting a m (Some s) None (Some q)) i r = absurd i
+look_fault past at slot attr file e (Faulting a m (Some s) (Some l) q) i r = absurd i
+look_fault past at slot attr file e (Faulting a m None l q) i r = absurd i
+look_fault past at slot attr file e NoFault i r = absurd i
 
-get_stage : (t u n frames : ℕ) (past : List Entry) (b : Backing) (x : Fault) → HullNone past → LooksSince past → IdsAt past → StageOk past x → IsLooked x → RightGet b n past x → RightGetAdds frames n x (get_adds b n x (states past)) past → flat (by t (Vcpu u) (Get b n) ∷ past) ≡ add (get_adds b n x (states past)) (flat past) → StageOk (by t (Vcpu u) (Get b n) ∷ past) (with_get (record { after = suc (length past); backing = b }) x)
-get_stage t u n frames past b (Faulting a m (Some s) (Some l) None) none looks ids h i g adding e =
+get_fault : (t u n frames : ℕ) (past : List Entry) (b : Backing) (x : Fault) → HullNone past → LooksSince past → IdsAt past → FaultOk past x → IsLooked x → RightGet b n past x → RightGetAdds frames n x (get_adds b n x (states past)) past → flat (by t (Vcpu u) (Get b n) ∷ past) ≡ add (get_adds b n x (states past)) (flat past) → FaultOk (by t (Vcpu u) (Get b n) ∷ past) (with_get (record { after = suc (length past); backing = b }) x)
+get_fault t u n frames past b (Faulting a m (Some s) (Some l) None) none looks ids h i g adding e =
     record {
       sampled = let p = h.sampled in let q = h.at_le in let r = h.place_lt in omega arith;
       after_le = omega arith;
@@ -97,37 +97,37 @@ get_stage t u n frames past b (Faulting a m (Some s) (Some l) None) none looks i
         | inr y ↦ inr (subst (λ (f : Flat). CanUse a b (named f a.page)) (sym (flat_at_here (suc (length past)) (by t (Vcpu u) (Get b n)) past (omega arith) ∙ e)) y)
       ];
     }
-get_stage t u n frames past b (Faulting a m (Some s) (Some l) (Some q)) none looks ids h i g adding e = absurd i
-get_stage t u n frames past b (Faulting a m (Some s) None q) none looks ids h i g adding e = absurd i
-get_stage t u n frames past b (Faulting a m None l q) none looks ids h i g adding e = absurd i
-get_stage t u n frames past b NoFault none looks ids h i g adding e = absurd i
+get_fault t u n frames past b (Faulting a m (Some s) (Some l) (Some q)) none looks ids h i g adding e = absurd i
+get_fault t u n frames past b (Faulting a m (Some s) None q) none looks ids h i g adding e = absurd i
+get_fault t u n frames past b (Faulting a m None l q) none looks ids h i g adding e = absurd i
+get_fault t u n frames past b NoFault none looks ids h i g adding e = absurd i
 
 at_vcpu : (u v : ℕ) (P : ℕ → Type 0) → eqb u v ≡ true → P u → P v
 at_vcpu u v P e x = subst P (eqb-true u v e) x
 
-pub stages_keep : (o : Orders) (t : ℕ) (w : What) (a : Actor) (past : List Entry) → IdsAt past → Good o.setup.callers past → May o w a past → Stages (by t a w ∷ past)
-stages_keep o t (Miss access) (Vcpu u) past ids g m v = cond_stage (by t (Vcpu u) (Miss access) ∷ past) (eqb u v) (Faulting access (suc (length past)) None None None) (fault v past) (λ _. tt) (stage_more t (Miss access) (Vcpu u) past (fault v past) g.hull_none (g.stages v))
-stages_keep o t (Sample s) (Vcpu u) past ids g m v = cond_stage (by t (Vcpu u) (Sample s) ∷ past) (eqb u v) (with_sample s (fault v past)) (fault v past) (λ e. sample_stage (by t (Vcpu u) (Sample s) ∷ past) s (fault v past) (at_vcpu u v (λ x. IsMissed (fault x past)) e m.0)) (stage_more t (Sample s) (Vcpu u) past (fault v past) g.hull_none (g.stages v))
-stages_keep o t (Look k slot attr file) (Vcpu u) past ids g m v = cond_stage (by t (Vcpu u) (Look k slot attr file) ∷ past) (eqb u v) (with_look (record { place = length past; at = k; slot = slot; attr = attr; file = file }) (fault v past)) (fault v past) (λ e. look_stage past k slot attr file (by t (Vcpu u) (Look k slot attr file)) (fault v past) (at_vcpu u v (λ x. IsSampled (fault x past)) e m.0) (at_vcpu u v (λ x. RightSeen k slot attr file past (fault x past)) e m.1)) (stage_more t (Look k slot attr file) (Vcpu u) past (fault v past) g.hull_none (g.stages v))
-stages_keep o t (Get b k) (Vcpu u) past ids g m v =
-    cond_stage (by t (Vcpu u) (Get b k) ∷ past) (eqb u v) (with_get (record { after = suc (length past); backing = b }) (fault v past)) (fault v past)
-    (λ e. get_stage t u k o.setup.frames past b (fault v past) g.hull_none g.looks ids (g.stages v)
+pub faults_keep : (o : Orders) (t : ℕ) (w : What) (a : Actor) (past : List Entry) → IdsAt past → Good o.setup.callers past → May o w a past → FaultsOk (by t a w ∷ past)
+faults_keep o t (Miss access) (Vcpu u) past ids g m v = cond_fault (by t (Vcpu u) (Miss access) ∷ past) (eqb u v) (Faulting access (suc (length past)) None None None) (fault v past) (λ _. tt) (fault_more t (Miss access) (Vcpu u) past (fault v past) g.hull_none (g.faults v))
+faults_keep o t (Sample s) (Vcpu u) past ids g m v = cond_fault (by t (Vcpu u) (Sample s) ∷ past) (eqb u v) (with_sample s (fault v past)) (fault v past) (λ e. sample_fault (by t (Vcpu u) (Sample s) ∷ past) s (fault v past) (at_vcpu u v (λ x. IsMissed (fault x past)) e m.0)) (fault_more t (Sample s) (Vcpu u) past (fault v past) g.hull_none (g.faults v))
+faults_keep o t (Look k slot attr file) (Vcpu u) past ids g m v = cond_fault (by t (Vcpu u) (Look k slot attr file) ∷ past) (eqb u v) (with_look (record { place = length past; at = k; slot = slot; attr = attr; file = file }) (fault v past)) (fault v past) (λ e. look_fault past k slot attr file (by t (Vcpu u) (Look k slot attr file)) (fault v past) (at_vcpu u v (λ x. IsSampled (fault x past)) e m.0) (at_vcpu u v (λ x. RightSeen k slot attr file past (fault x past)) e m.1)) (fault_more t (Look k slot attr file) (Vcpu u) past (fault v past) g.hull_none (g.faults v))
+faults_keep o t (Get b k) (Vcpu u) past ids g m v =
+    cond_fault (by t (Vcpu u) (Get b k) ∷ past) (eqb u v) (with_get (record { after = suc (length past); backing = b }) (fault v past)) (fault v past)
+    (λ e. get_fault t u k o.setup.frames past b (fault v past) g.hull_none g.looks ids (g.faults v)
     (at_vcpu u v (λ x. IsLooked (fault x past)) e m.0)
     (at_vcpu u v (λ x. RightGet b k past (fault x past)) e m.1)
     (at_vcpu u v (λ x. RightGetAdds o.setup.frames k (fault x past) (get_adds b k (fault x past) (states past)) past) e m.2)
     (at_vcpu u v (λ x. flat (by t (Vcpu u) (Get b k) ∷ past) ≡ add (get_adds b k (fault x past) (states past)) (flat past)) e refl))
-    (stage_more t (Get b k) (Vcpu u) past (fault v past) g.hull_none (g.stages v))
-stages_keep o t (Install page level) (Vcpu u) past ids g m v = cond_stage (by t (Vcpu u) (Install page level) ∷ past) (eqb u v) NoFault (fault v past) (λ _. tt) (stage_more t (Install page level) (Vcpu u) past (fault v past) g.hull_none (g.stages v))
-stages_keep o t Retry (Vcpu u) past ids g m v = cond_stage (by t (Vcpu u) Retry ∷ past) (eqb u v) NoFault (fault v past) (λ _. tt) (stage_more t Retry (Vcpu u) past (fault v past) g.hull_none (g.stages v))
-stages_keep o t (Left why) (Vcpu u) past ids g m v = cond_stage (by t (Vcpu u) (Left why) ∷ past) (eqb u v) NoFault (fault v past) (λ _. tt) (stage_more t (Left why) (Vcpu u) past (fault v past) g.hull_none (g.stages v))
-stages_keep o t (Miss access) (Caller c) past ids g m v = absurd m
-stages_keep o t (Sample s) (Caller c) past ids g m v = absurd m
-stages_keep o t (Look k slot attr file) (Caller c) past ids g m v = absurd m
-stages_keep o t (Get b k) (Caller c) past ids g m v = absurd m
-stages_keep o t (Install page level) (Caller c) past ids g m v = absurd m
-stages_keep o t Retry (Caller c) past ids g m v = absurd m
-stages_keep o t (Left why) (Caller c) past ids g m v = absurd m
-stages_keep o t w a past ids g m v = stage_more t w a past (fault v past) g.hull_none (g.stages v)
+    (fault_more t (Get b k) (Vcpu u) past (fault v past) g.hull_none (g.faults v))
+faults_keep o t (Install page level) (Vcpu u) past ids g m v = cond_fault (by t (Vcpu u) (Install page level) ∷ past) (eqb u v) NoFault (fault v past) (λ _. tt) (fault_more t (Install page level) (Vcpu u) past (fault v past) g.hull_none (g.faults v))
+faults_keep o t Retry (Vcpu u) past ids g m v = cond_fault (by t (Vcpu u) Retry ∷ past) (eqb u v) NoFault (fault v past) (λ _. tt) (fault_more t Retry (Vcpu u) past (fault v past) g.hull_none (g.faults v))
+faults_keep o t (Left why) (Vcpu u) past ids g m v = cond_fault (by t (Vcpu u) (Left why) ∷ past) (eqb u v) NoFault (fault v past) (λ _. tt) (fault_more t (Left why) (Vcpu u) past (fault v past) g.hull_none (g.faults v))
+faults_keep o t (Miss access) (Caller c) past ids g m v = absurd m
+faults_keep o t (Sample s) (Caller c) past ids g m v = absurd m
+faults_keep o t (Look k slot attr file) (Caller c) past ids g m v = absurd m
+faults_keep o t (Get b k) (Caller c) past ids g m v = absurd m
+faults_keep o t (Install page level) (Caller c) past ids g m v = absurd m
+faults_keep o t Retry (Caller c) past ids g m v = absurd m
+faults_keep o t (Left why) (Caller c) past ids g m v = absurd m
+faults_keep o t w a past ids g m v = fault_more t w a past (fault v past) g.hull_none (g.faults v)
 
 -- a vCPU enters
 enter_flushed : (u v from fl : ℕ) (ins : Bool) (pend : ℕ → Bool) → pend u ≡ false → (from < fl) ⊎ (pend v ≡ true) → (ins ≡ true → from < fl) → cond (eqb u v) true ins ≡ true → from < fl
@@ -156,7 +156,7 @@ keep_enter o t u past ids g m =
       fill_names = λ v h f i k. enter_fill u v (inside v past) (λ x. pending x past) m.flushed_before (g.fill_names v h f i k);
       since = since_more (by t (Vcpu u) Enter) past (λ q x y. y) g.since;
       looks = looks_more (by t (Vcpu u) Enter) past (refl, refl) g.looks;
-      stages = stages_keep o t Enter (Vcpu u) past ids g m;
+      faults = faults_keep o t Enter (Vcpu u) past ids g m;
     }
 
 -- a vCPU flushes
@@ -191,7 +191,7 @@ keep_flush o t u past ids g m =
       fill_names = λ v h f i k. let y = Mem-flush (eqb u v) f (fills v past) i in flush_fill (eqb u v) (inside v past) (pending v past) y.0 (g.fill_names v h f y.1 k);
       since = since_more (by t (Vcpu u) Flush) past (λ q x y. y) g.since;
       looks = looks_more (by t (Vcpu u) Flush) past (refl, refl) g.looks;
-      stages = stages_keep o t Flush (Vcpu u) past ids g m;
+      faults = faults_keep o t Flush (Vcpu u) past ids g m;
     }
 
 -- a vCPU goes outside
@@ -221,7 +221,7 @@ keep_miss o t u access past ids g m =
       fill_names = λ v h f i k. out_fill (eqb u v) (inside v past) (g.fill_names v h f i k);
       since = since_more (by t (Vcpu u) (Miss access)) past (λ q x y. y) g.since;
       looks = looks_more (by t (Vcpu u) (Miss access)) past (refl, refl) g.looks;
-      stages = stages_keep o t (Miss access) (Vcpu u) past ids g m;
+      faults = faults_keep o t (Miss access) (Vcpu u) past ids g m;
     }
 
 pub keep_gone : (o : Orders) (t u : ℕ) (past : List Entry) → IdsAt past → Good o.setup.callers past → May o Gone (Vcpu u) past → Good o.setup.callers (by t (Vcpu u) Gone ∷ past)
@@ -240,5 +240,5 @@ keep_gone o t u past ids g m =
       fill_names = λ v h f i k. out_fill (eqb u v) (inside v past) (g.fill_names v h f i k);
       since = since_more (by t (Vcpu u) Gone) past (λ q x y. y) g.since;
       looks = looks_more (by t (Vcpu u) Gone) past (refl, refl) g.looks;
-      stages = stages_keep o t Gone (Vcpu u) past ids g m;
+      faults = faults_keep o t Gone (Vcpu u) past ids g m;
     }

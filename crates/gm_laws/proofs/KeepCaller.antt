@@ -25,7 +25,7 @@ use Rattle.gm_laws.proofs.Flats.{attr_keep, named_keep, over, slot_keep}
 use Rattle.gm_laws.proofs.Good.{Good, KindIs, fill_at_more, from_more, looks_more, since_more}
 use Rattle.gm_laws.proofs.Grow.{hull_begin}
 use Rattle.gm_laws.proofs.Ids.{IdsAt}
-use Rattle.gm_laws.proofs.Keep.{stages_keep}
+use Rattle.gm_laws.proofs.Keep.{faults_keep}
 use Rattle.gm_laws.proofs.Kit.{Mem, Mem-off_spans, by, cond_is, flat_at_here, flat_at_keep, off_spans-page, some_same, widened_covers}
 use Rattle.gm_laws.proofs.Tally.{one, tally_open, tally_same, tally_shut, tally_two}
 use Rattle.gm_laws.specs.May.{May}
@@ -95,7 +95,7 @@ keep_begin o t d spans past lt ids g m =
           | inr z ↦ inr (inr z)
         ]
       ];
-      stages = stages_keep o t (Begin spans) (Caller d) past ids g m;
+      faults = faults_keep o t (Begin spans) (Caller d) past ids g m;
     }
 
 -- acked
@@ -148,7 +148,7 @@ keep_acked o t d past ids g m =
       fill_names = g.fill_names;
       since = since_more (by t (Caller d) Acked) past (λ r z y. y) g.since;
       looks = looks_more (by t (Caller d) Acked) past (refl, refl) g.looks;
-      stages = stages_keep o t Acked (Caller d) past ids g m;
+      faults = faults_keep o t Acked (Caller d) past ids g m;
     }
 
 -- a change
@@ -251,7 +251,7 @@ keep_change o t d effect past ids g may m =
           ]
         ]
       ];
-      stages = stages_keep o t (Change effect) (Caller d) past ids g may;
+      faults = faults_keep o t (Change effect) (Caller d) past ids g may;
     }
 
 -- end
@@ -300,5 +300,5 @@ keep_end o t d past lt ids g m =
         | inl lt ↦ inr (inr (sym (ap (λ (y : Flat). over q y.slots) (flat_at_here p (by t (Caller d) End) past lt)) ∙ e, ap (λ (y : Flat). attr_of q y.attrs) (sym (flat_at_here p (by t (Caller d) End) past lt))))
         | inr ge ↦ inl (or_left (leb p (length past)) (ended p past) (le-leb p (length past) ge))
       ];
-      stages = stages_keep o t End (Caller d) past ids g m;
+      faults = faults_keep o t End (Caller d) past ids g m;
     }

@@ -3,7 +3,7 @@ use Rattle.std.proofs.Common.{◌&&◌, ◌+◌, ◌++◌, ◌-◌, ◌<◌, Boo
 use Rattle.std.proofs.lemmas.Bool.{and_parts, both_ways, cases_Bool, or_parts}
 use Rattle.std.proofs.lemmas.Bool.Decides.{nat_tests}
 use Rattle.gm_base.specs.Aim.{Aim}
-use Rattle.gm_base.specs.Extent.{Extent, cover, holds}
+use Rattle.gm_base.specs.Extent.{Extent, holds}
 use Rattle.gm_base.specs.Scripts.{Orders}
 use Rattle.gm_base.specs.Values.{permits, same_kind}
 use Rattle.gm_base.specs.declared.numbers.TheConstants.{BUFFER_FILLS}
@@ -26,25 +26,25 @@ use Rattle.gm_flat.specs.declared.effect.Backing.{Backing}
 use Rattle.gm_flat.specs.declared.entry.Entry.{Entry}
 use Rattle.gm_flat.specs.declared.entry.What.TheVariants.{Install, Touch}
 use Rattle.gm_laws.proofs.Flats.{named_kind}
-use Rattle.gm_laws.proofs.Good.{FillAt, Gives, Good, InHull, KindIs, Since, StageOk, fill_at_more, from_more, looks_more, since_more}
+use Rattle.gm_laws.proofs.Good.{FaultOk, FillAt, Gives, Good, InHull, KindIs, Since, fill_at_more, from_more, looks_more, since_more}
 use Rattle.gm_laws.proofs.Grow.{ended-mono}
 use Rattle.gm_laws.proofs.Ids.{IdsAt}
-use Rattle.gm_laws.proofs.Keep.{stages_keep}
+use Rattle.gm_laws.proofs.Keep.{faults_keep}
 use Rattle.gm_laws.proofs.Kit.{Mem, Mem-off_extent, Mem-take, apart_page, by, changed-le, flat_at_all, flat_at_keep, in_leaf, in_leaf_same, none_is, small_page}
 use Rattle.gm_laws.specs.May.{Backs, May, MayInstall, ServedBy}
 
 -- an install
-abbrev IsNewLeaf : Mapping → ℕ → ℕ → Level → Flat → Fault → Type 0
+abbrev pub IsNewLeaf : Mapping → ℕ → ℕ → Level → Flat → Fault → Type 0
 IsNewLeaf l n page level f (Faulting a m s k (Some q)) = l ≡ record { made = n; page = page; level = level; kind = a.kind; gives = λ h. named f h }
 IsNewLeaf l n page level f _ = ⊥
 
-Mem-install : (l : Mapping) (n page : ℕ) (level : Level) (f : Flat) (st : Fault) (ls : List Mapping) → Mem l (leaf_by n page level f st ++ ls) → IsNewLeaf l n page level f st ⊎ Mem l ls
+pub Mem-install : (l : Mapping) (n page : ℕ) (level : Level) (f : Flat) (st : Fault) (ls : List Mapping) → Mem l (leaf_by n page level f st ++ ls) → IsNewLeaf l n page level f st ⊎ Mem l ls
 Mem-install l n page level f (Faulting a m s k (Some q)) ls i = i
 Mem-install l n page level f (Faulting a m s k None) ls i = inr i
 Mem-install l n page level f NoFault ls i = inr i
 
 -- what a fault that isn't stale got is named now
-use_now : (past : List Entry) (s k g : ℕ) (a : Aim) (b : Backing) (o : Option Named) → Since past → s ≤ k → k ≤ length past → named (flat_at k past) g ≡ o → stale (Some s) g past ≡ false → CanUse a b o → CanUse a b (named (flat past) g)
+pub use_now : (past : List Entry) (s k g : ℕ) (a : Aim) (b : Backing) (o : Option Named) → Since past → s ≤ k → k ≤ length past → named (flat_at k past) g ≡ o → stale (Some s) g past ≡ false → CanUse a b o → CanUse a b (named (flat past) g)
 use_now past s k g a b None h le lt e f u = absurd u
 use_now past s k g a b (Some m) h le lt e f u =
     elim (h k g m lt e) [
@@ -60,7 +60,7 @@ abbrev pub Installed : ℕ → List Entry → Fault → Type 0
 Installed page past (Faulting a m (Some s) (Some l) (Some q)) = (page ≡ a.page) × (stale (Some s) a.page past ≡ false) × CanUse a q.backing (named (flat past) a.page)
 Installed page past _ = ⊥
 
-pub installed : (page : ℕ) (past : List Entry) (st : Fault) → Since past → StageOk past st → MayInstall page past st → Installed page past st
+pub installed : (page : ℕ) (past : List Entry) (st : Fault) → Since past → FaultOk past st → MayInstall page past st → Installed page past st
 installed page past (Faulting a m (Some s) (Some l) (Some q)) h ok i = (
   i.0,
   i.1,
@@ -147,7 +147,7 @@ install_leaf : (o : Orders) (u page h : ℕ) (level : Level) (past : List Entry)
 install_leaf o u page h level past l g m i k =
     elim (Mem-install l (length past) page level (flat past) (fault u past) (off_extent (covered level page) (leaves past)) i) [
       | inl e ↦
-          let x = new_leaf_gives l page h level o.setup.huge past (fault u past) (installed page past (fault u past) g.since (g.stages u) m.0) m.1 e k in
+          let x = new_leaf_gives l page h level o.setup.huge past (fault u past) (installed page past (fault u past) g.since (g.faults u) m.0) m.1 e k in
           (x.0, inr x.1)
       | inr y ↦ let old = Mem-off_extent (covered level page) l (leaves past) y in (g.leaf_names l h old k, inl old)
     ]
@@ -178,7 +178,7 @@ keep_install o t u page level past ids g m =
       fill_names = g.fill_names;
       since = since_more (by t (Vcpu u) (Install page level)) past (λ q x y. y) g.since;
       looks = looks_more (by t (Vcpu u) (Install page level)) past (refl, refl) g.looks;
-      stages = stages_keep o t (Install page level) (Vcpu u) past ids g m;
+      faults = faults_keep o t (Install page level) (Vcpu u) past ids g m;
     }
 
 -- a touch
@@ -203,7 +203,7 @@ is_first a (l ∷ ls) = go (serves a l) refl (first_serving a ls) (is_first a ls
     go false e None h = tt
     go false e (Some x) h = (inr h.0, h.1)
 
-kind_is : (a b : Kind) → same_kind a b ≡ true → a ≡ b
+pub kind_is : (a b : Kind) → same_kind a b ≡ true → a ≡ b
 kind_is Private Private e = refl
 kind_is Shared Shared e = refl
 kind_is Private Shared e = absurd (both_ways _ refl e)
@@ -292,5 +292,5 @@ keep_touch o t u fill a b level value past fl ids g m =
       ];
       since = since_more (by t (Vcpu u) (Touch a b level value fill)) past (λ q x y. y) g.since;
       looks = looks_more (by t (Vcpu u) (Touch a b level value fill)) past (refl, refl) g.looks;
-      stages = stages_keep o t (Touch a b level value fill) (Vcpu u) past ids g m;
+      faults = faults_keep o t (Touch a b level value fill) (Vcpu u) past ids g m;
     }

@@ -19,11 +19,21 @@ mod Folios
 pub mod Fates
 pub mod RuledIsRight
 mod Rows
-mod OneRead
-mod Conversion
-mod FlushPending
-mod HeldPage
-mod MixedBlock
+pub mod OneReadRuled
+pub mod ConversionRuled
+pub mod FlushPendingRuled
+pub mod HeldPageRuled
+pub mod MixedBlockRuled
 mod Contents
 mod Prefix
 pub mod RightIsRuled
+mod Stands
+pub mod Readings
+pub mod MoreReadings
+pub mod WrongBodies
+pub mod Fronts
+pub mod Parts
+pub mod MoveAndDeletionRuled
+pub mod PopulationAndCloseRuled
+pub mod OneReadPlays
+pub mod FlushPendingPlays

@@ -6,7 +6,7 @@ use Rattle.gm_base.specs.Extent.{Extent}
 use Rattle.gm_base.specs.declared.calls.Ioctl.{Ioctl}
 use Rattle.gm_base.specs.declared.numbers.TheConstants.{KVM_MEM_GUEST_MEMFD}
 use Rattle.gm_base.specs.declared.values.Setup.{Setup}
-use Rattle.gm_flat.specs.Calls.{Bracketed, Paged, Plan, Reads, Refused, Same, Short, differs, has_memfd, plan}
+use Rattle.gm_flat.specs.Calls.{Bracketed, Paged, Plan, Reads, Refused, Same, Short, has_memfd, plan}
 use Rattle.gm_flat.specs.Effects.{apply, dropped, moved, shut_files, shut_slot, shut_slots, slot_fits, without_file}
 use Rattle.gm_flat.specs.FlatState.{FileState, Flat, has_flag, in_use, was_made}
 use Rattle.gm_flat.specs.Histories.{Bracket, Call, bracket, call}

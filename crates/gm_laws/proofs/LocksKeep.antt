@@ -1,7 +1,7 @@
 -- Each entry keeps what the locks keep.
 use Rattle.std.proofs.Common.{◌<◌, Bool, List, None, Option, Some, ap, arith, cond, eqb, eqb-true, false, inl, inr, length, ne_eqb, refl, subst, suc, sym, true, ℕ, ◌∙◌, ◌∷◌, ◌≡◌, ◌⊎◌}
 use Rattle.std.proofs.lemmas.Bool.{both_ways, cases_Bool, cases_lt, eqb-false}
-use Rattle.gm_base.specs.Extent.{Extent, holds}
+use Rattle.gm_base.specs.Extent.{Extent}
 use Rattle.gm_base.specs.Scripts.{Orders}
 use Rattle.gm_base.specs.declared.calls.Ioctl.{Ioctl}
 use Rattle.gm_base.specs.declared.values.Actor.{Actor}

@@ -1,7 +1,6 @@
 -- A right history follows the tables.
-use Rattle.std.proofs.Common.{List, None, Option, Some, [], ap, false, inl, inr, length, refl, subst, true, ℕ, ◌∙◌, ◌∷◌, ◌≡◌}
+use Rattle.std.proofs.Common.{◌+◌, List, None, Option, Some, [], ap, false, inl, inr, length, refl, subst, true, ℕ, ◌∙◌, ◌∷◌, ◌≡◌}
 use Rattle.gm_base.specs.Aim.{Aim}
-use Rattle.gm_base.specs.Extent.{cover}
 use Rattle.gm_base.specs.Scripts.{Orders}
 use Rattle.gm_base.specs.declared.script.Command.TheVariants.{Touch as TouchCommand}
 use Rattle.gm_base.specs.declared.values.Actor.{Actor}
@@ -9,6 +8,7 @@ use Rattle.gm_base.specs.declared.values.Actor.TheVariants.{Caller, Vcpu}
 use Rattle.gm_base.specs.declared.values.Level.{Level}
 use Rattle.gm_flat.specs.FlatState.{Flat, is_live}
 use Rattle.gm_flat.specs.Histories.{Fault, Faulting, NoFault, fault, same_turn}
+use Rattle.gm_flat.specs.Invalidation.{count}
 use Rattle.gm_flat.specs.Mappings.{Mapping, fills, first_serving, leaves}
 use Rattle.gm_flat.specs.NamedPage.{Named, named}
 use Rattle.gm_flat.specs.Replay.{flat, flat_at}
@@ -26,21 +26,22 @@ use Rattle.gm_flat.specs.declared.entry.Entry.{Entry}
 use Rattle.gm_flat.specs.declared.entry.What.{What}
 use Rattle.gm_flat.specs.declared.entry.What.TheVariants.{Acked, Answer, Begin, Change, End, Enter, Flush, Free, Get, Gone, Install, Judge, Left, Look, Miss, Page, Retry, Sample, Touch}
 use Rattle.gm_laws.proofs.Contents.{each_now, word_read}
-use Rattle.gm_laws.proofs.Fates.{at_rest}
-use Rattle.gm_laws.proofs.Folios.{lives}
 use Rattle.gm_laws.proofs.Good.{Good}
 use Rattle.gm_laws.proofs.KeepVcpu.{IsFirst, is_first, serves_use}
 use Rattle.gm_laws.proofs.Kit.{by_test, flat_at_all}
 use Rattle.gm_laws.proofs.Locks.{Locks}
+use Rattle.gm_laws.proofs.MoreReadings.{count_is_rest}
 use Rattle.gm_laws.proofs.Prefix.{IsBegun, after_judge, begun_back, loose_first, same_row_actor, whole_begun}
 use Rattle.gm_laws.proofs.Touches.{good, locks}
 use Rattle.gm_laws.specs.Contents.{added_word, last_write, or_else}
 use Rattle.gm_laws.specs.May.{Backs, May, MayInstall, MayRetry, MayTouch, ServedBy}
+use Rattle.gm_laws.specs.Readings.{how_many, is_begin, is_end}
 use Rattle.gm_laws.specs.Ruled.{AllFreed, Follows, Ruled, loosens}
 use Rattle.gm_laws.specs.TouchesNow.{TouchesNow}
+use Rattle.gm_laws.specs.WrongBodies.{at}
 
 -- the facts of a right history, as far as an entry
-pub record Facts_of (o : Orders) (past : List Entry) : Type 0 where
+pub record RightSoFar (o : Orders) (past : List Entry) : Type 0 where
   pub touches : Each (λ e p. RightTouch e.what e.actor p) past
   pub looks : Each (λ e p. RightLook o.setup e.what e.actor p) past
   pub installs : Each (λ e p. RightInstall e.what e.actor p) past
@@ -50,7 +51,7 @@ pub record Facts_of (o : Orders) (past : List Entry) : Type 0 where
   pub order : Each (λ e p. RightOrder o e p) past
   pub begun : IsBegun o.setup past
 
-back : (o : Orders) (e : Entry) (past : List Entry) → Facts_of o (e ∷ past) → Facts_of o past
+back : (o : Orders) (e : Entry) (past : List Entry) → RightSoFar o (e ∷ past) → RightSoFar o past
 back o e past f =
     record {
       touches = f.touches.1;
@@ -75,8 +76,7 @@ serves_back o u fill a b level past (Some f) p g h k c s = (
   use_backs a b (f.gives a.page) (subst (λ (z : Option Named). CanUse a b z) ((g.fill_in u f h.0).1.1 a.page) (subst (λ (n : ℕ). CanUse a b (named (flat_at n past) a.page)) s.0 c)),
 )
 serves_back o u fill a b level past None (Some l) g h k c s =
-    let cover = (serves_use a b l k.1).0 in
-    (
+    let cover = (serves_use a b l k.1).0 in (
       s.0,
       s.1,
       use_backs a b (l.gives a.page) (subst (λ (z : Option Named). CanUse a b z) (g.leaf_names l a.page k.0 cover).0 (subst (λ (f : Flat). CanUse a b (named f a.page)) (ap (λ (n : ℕ). flat_at n past) s.0 ∙ flat_at_all past) c)),
@@ -150,7 +150,7 @@ may o (Answer reply) (Vcpu v) past g t k i l f c s = s
 all_freed : (past : List Entry) → LivesAtRest past → AllFreed past
 all_freed past r h s u = by_test (is_live s (flat past).folios) (λ y. inl (r.live_is_used s y)) (λ n. inr n)
 
-begins : (o : Orders) (e : Entry) (past : List Entry) → Locks o.setup past → Facts_of o (e ∷ past) → ((d : Entry) (p : List Entry) → past ≡ d ∷ p → Locks o.setup p) → loosens e.what ≡ true → same_turn e past ≡ false
+begins : (o : Orders) (e : Entry) (past : List Entry) → Locks o.setup past → RightSoFar o (e ∷ past) → ((d : Entry) (p : List Entry) → past ≡ d ∷ p → Locks o.setup p) → loosens e.what ≡ true → same_turn e past ≡ false
 begins o e [] k f older l = refl
 begins o e (d ∷ p) k f older l = by_test (same_turn e (d ∷ p))
     (λ t. absurd (loose_first o e.what e.actor d p (older d p refl) (same_row_actor d e p t f.order.0.together) (after_judge o.setup e d p f.begun t l) f.order.1.0.step f.order.0.step f.calls.0 l))
@@ -159,7 +159,7 @@ begins o e (d ∷ p) k f older l = by_test (same_turn e (d ∷ p))
 older_locks : (o : Orders) (past : List Entry) → Follows o past → (d : Entry) (p : List Entry) → past ≡ d ∷ p → Locks o.setup p
 older_locks o past r d p e = locks o p (subst (Follows o) e r).1
 
-pub follows : (o : Orders) (past : List Entry) → Facts_of o past → Follows o past
+pub follows : (o : Orders) (past : List Entry) → RightSoFar o past → Follows o past
 follows o [] f = tt
 follows o (e ∷ past) f = go (follows o past (back o e past f))
   where
@@ -199,3 +199,6 @@ right_now o past r = each_now o past (ruled o past r).follows
 
 pub right_word : (o : Orders) (past : List Entry) → Right o past → (serial word : ℕ) → folio_word serial word past ≡ or_else (last_write serial word past) (added_word serial word past)
 right_word o past r serial word = word_read o past serial word (ruled o past r).follows
+
+pub right_count : (o : Orders) (past : List Entry) → Right o past → how_many is_begin past ≡ how_many is_end past + count past
+right_count o past r = count_is_rest o past (ruled o past r).follows

@@ -1,9 +1,9 @@
 -- What helps to show by computing that a concrete history follows the tables.
-use Rattle.std.proofs.Common.{◌<◌, Bool, List, None, Option, Some, [], ap, arith, cond, eqb, eqb-true, false, inl, inr, length, refl, subst, true, ℕ, ◌∙◌, ◌∷◌, ◌≡◌, ◌≤◌}
+use Rattle.std.proofs.Common.{◌+◌, ◌<◌, Bool, List, None, Option, Some, [], ap, arith, cond, eq-eqb, eqb, eqb-true, false, inl, inr, length, refl, subst, suc, sym, true, zero, ℕ, ◌∙◌, ◌∷◌, ◌≡◌, ◌≤◌, ◌⊎◌}
 use Rattle.std.proofs.lemmas.Bool.{both_ways}
-use Rattle.gm_base.specs.Extent.{holds}
 use Rattle.gm_base.specs.Scripts.{IsOf, Orders}
 use Rattle.gm_base.specs.declared.calls.Ioctl.{Ioctl}
+use Rattle.gm_base.specs.declared.script.Turn.{Turn}
 use Rattle.gm_base.specs.declared.values.Actor.{Actor}
 use Rattle.gm_base.specs.declared.values.Actor.TheVariants.{Caller, Vcpu}
 use Rattle.gm_base.specs.declared.values.Folio.{Folio}
@@ -12,6 +12,7 @@ use Rattle.gm_flat.specs.FlatState.{Triple, is_triple}
 use Rattle.gm_flat.specs.Histories.{Bracket, Call, call, call_step, fault, same_turn}
 use Rattle.gm_flat.specs.Locks.{WaitsForLock}
 use Rattle.gm_flat.specs.Mappings.{flushed, inside, inside_step}
+use Rattle.gm_flat.specs.Plays.{turn_at}
 use Rattle.gm_flat.specs.RightLives.{FaultHolds, IsHeld}
 use Rattle.gm_flat.specs.RightOrder.{IsTogether, IsWhole, WaitsForFlush}
 use Rattle.gm_flat.specs.declared.entry.Entry.{Entry}
@@ -107,3 +108,43 @@ below k h = omega arith
 
 pub one_cached : (F i s : ℕ) (t : Triple) (fo : Folio) → cond (is_triple F i t) (Some t.folio) None ≡ Some fo → fo.serial ≡ s → t.folio.serial ≡ s
 one_cached F i s t fo e q = elim (cond_is (is_triple F i t) (Some t.folio) None (Some fo) e) [ inl y ↦ ap (λ (x : Folio). x.serial) (some_same t.folio fo y.1) ∙ q | inr y ↦ absurd (none_is fo y.1) ]
+
+pub two_cached : (F i s : ℕ) (t u : Triple) (fo : Folio) → cond (is_triple F i t) (Some t.folio) (cond (is_triple F i u) (Some u.folio) None) ≡ Some fo → fo.serial ≡ s → (t.folio.serial ≡ s) ⊎ (u.folio.serial ≡ s)
+two_cached F i s t u fo e q = elim (cond_is (is_triple F i t) (Some t.folio) (cond (is_triple F i u) (Some u.folio) None) (Some fo) e) [
+  | inl y ↦ inl (ap (λ (x : Folio). x.serial) (some_same t.folio fo y.1) ∙ q)
+  | inr y ↦ inr (one_cached F i s u fo y.1 q)
+]
+
+-- turns of a script
+pub differ : {A : Type 0} (a b : ℕ) → eqb a b ≡ false → a ≡ b → A
+differ a b n e = absurd (both_ways (eqb a b) n (eq-eqb a b e))
+
+pub cons_nil : {A : Type 0} {w : What} {ws : List What} → w ∷ ws ≡ [] → A
+cons_nil {A} {w} {ws} e = absurd (cc)
+
+pub true_false_any : {A : Type 0} → true ≡ false → A
+true_false_any e = absurd (both_ways true e refl)
+
+pub some_none_call : {x : Call} → Some x ≡ None → ⊥
+some_none_call {x} e = none_is x (sym e)
+
+abbrev pub AllTurns : (ℕ → Turn → Type 0) → List Turn → ℕ → Type 0
+AllTurns P [] n = Unit {0}
+AllTurns P (t ∷ ts) n = P n t × AllTurns P ts (suc n)
+
+turns_from : (P : ℕ → Turn → Type 0) (ts : List Turn) (n : ℕ) → AllTurns P ts n → (k : ℕ) (t : Turn) → turn_at ts k ≡ Some t → P (n + k) t
+turns_from P [] n a k t e = absurd (none_is t e)
+turns_from P (x ∷ ts) n a zero t e = subst (λ (y : Turn). P (n + 0) y) (some_same x t e) (subst (λ (m : ℕ). P m x) (plus n) a.0)
+  where
+    plus : (n : ℕ) → n ≡ n + 0
+    plus n = omega arith
+turns_from P (x ∷ ts) n a (suc k) t e = subst (λ (m : ℕ). P m t) (shift n k) (turns_from P ts (suc n) a.1 k t e)
+  where
+    shift : (n k : ℕ) → suc n + k ≡ n + suc k
+    shift n k = omega arith
+
+pub all_turns : (P : ℕ → Turn → Type 0) (ts : List Turn) → AllTurns P ts 0 → (k : ℕ) (t : Turn) → turn_at ts k ≡ Some t → P k t
+all_turns P ts a k t e = subst (λ (m : ℕ). P m t) (plus k) (turns_from P ts 0 a k t e)
+  where
+    plus : (k : ℕ) → 0 + k ≡ k
+    plus k = omega arith

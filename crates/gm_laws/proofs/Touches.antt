@@ -25,10 +25,10 @@ use Rattle.gm_flat.specs.declared.entry.What.{What}
 use Rattle.gm_flat.specs.declared.entry.What.TheVariants.{Acked, Begin, Change, End, Enter, Flush, Get, Gone, Install, Miss, Retry, Touch}
 use Rattle.gm_flat.specs.declared.views.SlotView.{SlotView}
 use Rattle.gm_laws.proofs.Flats.{of_file, over}
-use Rattle.gm_laws.proofs.Good.{Good, KindIs, LookOk, LooksSince, StageOk, fill_at_more, from_more, looks_more, since_more}
+use Rattle.gm_laws.proofs.Good.{Good, KindIs, LookOk, LooksSince, FaultOk, fill_at_more, from_more, looks_more, since_more}
 use Rattle.gm_laws.proofs.Grow.{grow, looked_over, same_look, stale_since}
 use Rattle.gm_laws.proofs.Ids.{MemSlot}
-use Rattle.gm_laws.proofs.Keep.{keep_enter, keep_flush, keep_gone, keep_miss, stages_keep}
+use Rattle.gm_laws.proofs.Keep.{keep_enter, keep_flush, keep_gone, keep_miss, faults_keep}
 use Rattle.gm_laws.proofs.KeepCaller.{keep_acked, keep_begin, keep_change, keep_end}
 use Rattle.gm_laws.proofs.KeepVcpu.{IsFirst, install_right, installed, is_first, keep_install, keep_touch, serves_use, walked}
 use Rattle.gm_laws.proofs.Kit.{by, changed-le, flat_at_all, none_is, settled-le, some_same}
@@ -94,7 +94,7 @@ keep o t w a past lt k g m =
       ];
       since = since_more (by t a w) past (grow o t w a past refl m) g.since;
       looks = looks_more (by t a w) past (same_look t w a past refl) g.looks;
-      stages = stages_keep o t w a past k.ids g m;
+      faults = faults_keep o t w a past k.ids g m;
     }
 
 tally_none : (n : ℕ) → tally n (λ c. None) ≡ 0
@@ -117,7 +117,7 @@ empty_good n =
       fill_names = λ v h f i k. absurd i;
       since = λ p g m le e. inr (inr e);
       looks = λ p g r le e. absurd (none_is r e);
-      stages = λ v. tt;
+      faults = λ v. tt;
     }
 
 empty_locks : (s : Setup) → Locks s []
@@ -236,7 +236,7 @@ retry_shut o past a s l k looks ok e h =
       ]
     ]
 
-retry_right : (o : Orders) (past : List Entry) (x : Fault) → Locks o.setup past → LooksSince past → StageOk past x → MayRetry past x → Retries past x
+retry_right : (o : Orders) (past : List Entry) (x : Fault) → Locks o.setup past → LooksSince past → FaultOk past x → MayRetry past x → Retries past x
 retry_right o past (Faulting a m (Some s) (Some l) (Some q)) k looks ok h = h
 retry_right o past (Faulting a m (Some s) (Some l) None) k looks ok h = record { right_route = h.0; is_shut = h.1; is_stale = retry_shut o past a s l k looks ok h.0 h.1 }
 retry_right o past (Faulting a m (Some s) None q) k looks ok h = absurd h
@@ -246,8 +246,8 @@ retry_right o past NoFault k looks ok h = absurd h
 pub right_install : (o : Orders) (w : What) (a : Actor) (past : List Entry) → Locks o.setup past → Good o.setup.callers past → May o w a past → RightInstall w a past
 right_install o (Get b n) (Vcpu u) past k g m = m.1
 right_install o (Get b n) (Caller c) past k g m = absurd m
-right_install o (Install page level) (Vcpu u) past k g m = install_right page past (fault u past) (installed page past (fault u past) g.since (g.stages u) m.0)
+right_install o (Install page level) (Vcpu u) past k g m = install_right page past (fault u past) (installed page past (fault u past) g.since (g.faults u) m.0)
 right_install o (Install page level) (Caller c) past k g m = absurd m
-right_install o Retry (Vcpu u) past k g m = retry_right o past (fault u past) k g.looks (g.stages u) m
+right_install o Retry (Vcpu u) past k g m = retry_right o past (fault u past) k g.looks (g.faults u) m
 right_install o Retry (Caller c) past k g m = absurd m
 right_install o w a past k g m = tt

@@ -1,4 +1,17 @@
 pub mod Contents
+pub mod Conversion
+pub mod FlushPending
+pub mod HeldPage
+pub mod Invariant
+pub mod LivesEverywhere
 pub mod May
+pub mod MixedBlock
+pub mod MoveAndDeletion
+pub mod OneRead
+pub mod PopulationAndClose
+pub mod Readings
+pub mod Rows
 pub mod Ruled
+pub mod Stands
 pub mod TouchesNow
+pub mod WrongBodies

@@ -1,6 +1,6 @@
 -- A touch has what is named at its own position, also while a conversion runs, and by a fill newer than every change on
 -- its page.
-use Rattle.std.specs.Prelude.{ℕ, ◌≤◌, List}
+use Rattle.std.specs.Prelude.{◌≤◌, List}
 use Rattle.gm_base.specs.declared.values.Actor.{Actor}
 use Rattle.gm_flat.specs.declared.entry.Entry.{Entry}
 use Rattle.gm_flat.specs.declared.entry.What.{What}

@@ -1,15 +1,21 @@
-//! Laws over histories, proved once: what holds of every history that follows the tables. Each law is the contract of a
-//! function with an empty body.
+//! Laws over histories, proved once: what holds of every history that follows the tables, and what the readings of a
+//! history say. Each law is the contract of a function with an empty body.
 #![tactic(auto)]
 
-ghost use Rattle.std.specs.Prelude.{List};
-ghost use Rattle.gm_base.specs.Scripts.{Orders};
-ghost use Rattle.gm_flat.specs.RightHistory.{Right};
-ghost use Rattle.gm_flat.specs.declared.entry.Entry.{Entry};
-ghost use Rattle.gm_laws.specs.Ruled.{Ruled};
+mod examples;
+mod meanings;
+mod rightness;
 
-/// A history that follows the tables is right.
-
-pub fn ruled_is_right()
-    ensures { (o : Orders) (past : List Entry) → Ruled o past → Right o past }
-{}
+pub use examples::{
+    worked_rows_follow_the_tables, worked_rows_play_their_turns, wrong_bodies_are_refused,
+};
+pub use meanings::{
+    all_have_means_each_page, attribute_is_the_last_call, ended_is_an_end,
+    fills_are_the_last_touches, flushed_is_the_last_flush, hull_is_the_least_span,
+    inside_is_the_last_enter, leaves_are_standing_installs, pending_is_a_begin_since,
+    settled_is_the_greatest,
+};
+pub use rightness::{
+    count_is_begins_less_ends, frames_differ_everywhere, fronts_of_right_are_right,
+    invariant_holds, right_is_ruled, ruled_is_right, touches_are_named_now, words_are_last_written,
+};

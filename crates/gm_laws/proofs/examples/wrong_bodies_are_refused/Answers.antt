@@ -1,0 +1,6 @@
+-- Each wrong history by computing.
+use Rattle.gm_laws.proofs.WrongBodies.{always_retries_is_wrong, answers_before_acked_is_wrong, asks_only_where_a_leaf_went_is_wrong, block_leaf_beside_a_change_is_wrong, edges_not_renewed_is_wrong, exits_by_the_miss_is_wrong, frees_a_held_page_is_wrong, keeps_old_words_is_wrong, leaves_the_block_leaf_is_wrong, looks_at_the_generation_before_is_wrong, never_compares_is_wrong, overlooks_the_last_page_is_wrong, resets_the_range_is_wrong}
+use Rattle.gm_laws.proofs.examples.wrong_bodies_are_refused.Goals as goal
+
+pub returns : goal.returns
+returns c = record { never_compares_body = never_compares_is_wrong; resets_the_range_body = resets_the_range_is_wrong; asks_only_where_a_leaf_went_body = asks_only_where_a_leaf_went_is_wrong; frees_a_held_page_body = frees_a_held_page_is_wrong; block_leaf_beside_a_change_body = block_leaf_beside_a_change_is_wrong; edges_not_renewed_body = edges_not_renewed_is_wrong; leaves_the_block_leaf_body = leaves_the_block_leaf_is_wrong; always_retries_body = always_retries_is_wrong; keeps_old_words_body = keeps_old_words_is_wrong; answers_before_acked_body = answers_before_acked_is_wrong; exits_by_the_miss_body = exits_by_the_miss_is_wrong; overlooks_the_last_page_body = overlooks_the_last_page_is_wrong; looks_at_the_generation_before_body = looks_at_the_generation_before_is_wrong }

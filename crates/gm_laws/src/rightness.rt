@@ -1,0 +1,62 @@
+//! Histories that follow the tables are the right ones, and what holds in them.
+
+ghost use Rattle.std.specs.Prelude.{ℕ, ◌≡◌, ◌+◌, List, false};
+ghost use Rattle.gm_base.specs.Scripts.{Orders};
+ghost use Rattle.gm_flat.specs.Histories.{same_turn};
+ghost use Rattle.gm_flat.specs.Invalidation.{count};
+ghost use Rattle.gm_flat.specs.RightHistory.{Each, Right};
+ghost use Rattle.gm_flat.specs.Words.{folio_word};
+ghost use Rattle.gm_flat.specs.declared.entry.Entry.{Entry};
+ghost use Rattle.gm_laws.specs.Contents.{added_word, last_write, or_else};
+ghost use Rattle.gm_laws.specs.Invariant.{Invariant};
+ghost use Rattle.gm_laws.specs.LivesEverywhere.{LivesEverywhere};
+ghost use Rattle.gm_laws.specs.Readings.{how_many, is_begin, is_end};
+ghost use Rattle.gm_laws.specs.Ruled.{Ruled};
+ghost use Rattle.gm_laws.specs.Stands.{Stands};
+ghost use Rattle.gm_laws.specs.TouchesNow.{TouchesNow};
+
+/// A history that follows the tables is right.
+pub fn ruled_is_right()
+    ensures { (o : Orders) (past : List Entry) → Ruled o past → Right o past }
+{}
+
+/// A right history follows the tables.
+pub fn right_is_ruled()
+    ensures { (o : Orders) (past : List Entry) → Right o past → Ruled o past }
+{}
+
+/// A touch has what is named at its own position, also while a conversion runs, and by a fill newer than every change on its
+/// page.
+pub fn touches_are_named_now()
+    ensures { (o : Orders) (past : List Entry) → Right o past → Each (λ e p. TouchesNow e.what e.actor p) past }
+{}
+
+/// The word read of a folio is the last one written to it by a touch, else the one that it was added with.
+pub fn words_are_last_written()
+    ensures { (o : Orders) (past : List Entry) → Right o past → (serial word : ℕ) → folio_word serial word past ≡ or_else (last_write serial word past) (added_word serial word past) }
+{}
+
+/// The count of invalidations in progress is the number of Begins less the number of Ends.
+pub fn count_is_begins_less_ends()
+    ensures { (o : Orders) (past : List Entry) → Right o past → how_many is_begin past ≡ how_many is_end past + count past }
+{}
+
+/// What stands before the first entry of a turn of a right history is a right history.
+pub fn fronts_of_right_are_right()
+    ensures { (o : Orders) (e : Entry) (before past : List Entry) → Right o past → Stands e before past → same_turn e before ≡ false → Right o before }
+{}
+
+/// At every position of a right history, also inside a turn, a folio that is cached or held is live, and two live folios have
+/// different frames.
+pub fn frames_differ_everywhere()
+    ensures now { (o : Orders) (past : List Entry) → Right o past → LivesEverywhere past }
+    ensures before { (o : Orders) (e : Entry) (front past : List Entry) → Right o past → Stands e front past → LivesEverywhere front }
+{}
+
+/// At every position of a right history, also inside a turn: leaves name what is named now; no leaf lies under a bracket; a
+/// fill gives what was named then, and is still named, or its vCPU is outside and flushes first; a vCPU inside has flushed
+/// since each acknowledged Begin; and a fault is stale, or what it looked up and got is true.
+pub fn invariant_holds()
+    ensures now { (o : Orders) (past : List Entry) → Right o past → Invariant past }
+    ensures before { (o : Orders) (e : Entry) (front past : List Entry) → Right o past → Stands e front past → Invariant front }
+{}
