@@ -1,13 +1,17 @@
-// A library with one function.
+//! The outside: sources of bytes, sinks of bytes, and gates.
 #![tactic(auto)]
 
-ghost use Rattle.std.specs.Prelude.{◌≡◌};
-ghost use Rattle.gm_io.specs.Echo.{echo_of};
+mod adapters;
+mod ends;
+mod gathered;
+mod memory;
+mod sure;
 
-// The `ensures` clause is the contract: what `echo` returns is `echo_of` of its argument, a definition
-// in `specs/Echo.antt`, which a caller's clause can cite too.
-pub fn echo(x: usize) -> usize
-    ensures { result ≡ echo_of x }
-{
-    x
-}
+pub use adapters::{ReaderSource, WriterSink};
+pub use ends::{Failed, Gate, OpenGate, Sink, Source, put_all};
+pub use gathered::Gathered;
+pub use memory::{MemorySink, MemorySource};
+pub use sure::{SureSink, SureSource};
+
+#[cfg(test)]
+mod tests;

@@ -1,0 +1,355 @@
+-- The worked row «punch of a held page»: the page is freed at the retry with which its last hold ends.
+use Rattle.std.proofs.Common.{◌+◌, ◌<◌, List, Some, [], arith, false, inl, inr, refl, subst, ℕ, ◌∷◌, ◌≡◌}
+use Rattle.gm_base.specs.Scripts.{Orders}
+use Rattle.gm_base.specs.declared.calls.Ioctl.TheVariants.{Attrs, Create, Punch, Region2}
+use Rattle.gm_base.specs.declared.script.Command.TheVariants.{Call as CallCommand, Touch as TouchCommand}
+use Rattle.gm_base.specs.declared.values.Actor.TheVariants.{Caller, Vcpu}
+use Rattle.gm_base.specs.declared.values.Kind.TheVariants.{Private}
+use Rattle.gm_base.specs.declared.values.Level.TheVariants.{Small}
+use Rattle.gm_base.specs.declared.values.Op.TheVariants.{Write}
+use Rattle.gm_flat.specs.FlatState.{is_live}
+use Rattle.gm_flat.specs.Replay.{flat}
+use Rattle.gm_flat.specs.RightLives.{frame_of}
+use Rattle.gm_flat.specs.declared.effect.Backing.TheVariants.{Folio as InFolio}
+use Rattle.gm_flat.specs.declared.effect.Effect.TheVariants.{Attr, Cut, File, Slot}
+use Rattle.gm_flat.specs.declared.effect.Reply.TheVariants.{Good as GoodReply}
+use Rattle.gm_flat.specs.declared.entry.Entry.{Entry}
+use Rattle.gm_flat.specs.declared.entry.What.TheVariants.{Acked, Answer, Begin, Change, End, Enter, Flush, Free, Get, Install, Judge, Look, Miss, Retry, Sample, Touch}
+use Rattle.gm_laws.proofs.Kit.{by, none_is}
+use Rattle.gm_laws.proofs.Rows.{below, false_true, first, further, one_cached, one_caller, one_holder, one_vcpu, quiet}
+use Rattle.gm_laws.specs.Ruled.{AllFreed, Follows, Ruled}
+
+abbrev pub orders : Orders
+orders = record { setup = record { frames = 1; user = 4; vcpus = 1; callers = 1; huge = false }; vcpus = (TouchCommand (record { page = 0; word = 0; op = (Write 7); kind = Private }) ∷ []) ∷ []; callers = (CallCommand (Create 4096 0) ∷ CallCommand (Region2 (record { slot = 0; flags = 4; gpa = 0; size = 4096; user = 0; fd = 0; offset = 0 })) ∷ CallCommand (Attrs 0 4096 8 0) ∷ CallCommand (Punch 0 0 4096) ∷ []) ∷ [] }
+
+none_lower : (q : ℕ) → q < 0 → ⊥
+none_lower q h = omega arith
+
+none_below : 0 < 0 → ⊥
+none_below h = omega arith
+
+abbrev entry1 : Entry
+entry1 = by 1 (Caller 0) (Judge (Create 4096 0))
+
+abbrev pub past1 : List Entry
+past1 = entry1 ∷ []
+
+pub follows1 : Follows orders past1
+follows1 = (first orders entry1 [] (omega arith) (omega arith) tt (quiet [] refl) (record { command = refl; none_in_progress = refl; locks_free = one_caller orders [] (Create 4096 0) refl tt }) refl, tt)
+
+abbrev entry2 : Entry
+entry2 = by 1 (Caller 0) (Change (File 0 1 false))
+
+abbrev pub past2 : List Entry
+past2 = entry2 ∷ past1
+
+pub follows2 : Follows orders past2
+follows2 = (further orders entry2 past1 (omega arith) (inl (refl, refl)) refl refl (((refl, refl), refl)), follows1)
+
+abbrev entry3 : Entry
+entry3 = by 1 (Caller 0) (Answer (GoodReply 0))
+
+abbrev pub past3 : List Entry
+past3 = entry3 ∷ past2
+
+pub follows3 : Follows orders past3
+follows3 = (further orders entry3 past2 (omega arith) (inl (refl, refl)) refl refl ((refl, (refl, refl))), follows2)
+
+abbrev entry4 : Entry
+entry4 = by 2 (Caller 0) (Judge (Region2 (record { slot = 0; flags = 4; gpa = 0; size = 4096; user = 0; fd = 0; offset = 0 })))
+
+abbrev pub past4 : List Entry
+past4 = entry4 ∷ past3
+
+pub follows4 : Follows orders past4
+follows4 = (first orders entry4 past3 (omega arith) (inr (omega arith)) refl (quiet past3 refl) (record { command = refl; none_in_progress = refl; locks_free = one_caller orders past3 (Region2 (record { slot = 0; flags = 4; gpa = 0; size = 4096; user = 0; fd = 0; offset = 0 })) refl follows3 }) refl, follows3)
+
+abbrev entry5 : Entry
+entry5 = by 2 (Caller 0) (Change (Slot 0 0 1 0 4 (Some 0) 0))
+
+abbrev pub past5 : List Entry
+past5 = entry5 ∷ past4
+
+pub follows5 : Follows orders past5
+follows5 = (further orders entry5 past4 (omega arith) (inl (refl, refl)) refl refl (((refl, refl), refl)), follows4)
+
+abbrev entry6 : Entry
+entry6 = by 2 (Caller 0) (Answer (GoodReply 0))
+
+abbrev pub past6 : List Entry
+past6 = entry6 ∷ past5
+
+pub follows6 : Follows orders past6
+follows6 = (further orders entry6 past5 (omega arith) (inl (refl, refl)) refl refl ((refl, (refl, refl))), follows5)
+
+abbrev entry7 : Entry
+entry7 = by 3 (Caller 0) (Judge (Attrs 0 4096 8 0))
+
+abbrev pub past7 : List Entry
+past7 = entry7 ∷ past6
+
+pub follows7 : Follows orders past7
+follows7 = (first orders entry7 past6 (omega arith) (inr (omega arith)) refl (quiet past6 refl) (record { command = refl; none_in_progress = refl; locks_free = one_caller orders past6 (Attrs 0 4096 8 0) refl follows6 }) refl, follows6)
+
+abbrev entry8 : Entry
+entry8 = by 4 (Caller 0) (Begin (record { list = (record { lo = 0; hi = 1 }) ∷ []; spare = 0 }))
+
+abbrev pub past8 : List Entry
+past8 = entry8 ∷ past7
+
+pub follows8 : Follows orders past8
+follows8 = (first orders entry8 past7 (omega arith) (inr (omega arith)) refl (quiet past7 refl) ((refl, ((Attr (record { lo = 0; hi = 1 }) Private), refl))) refl, follows7)
+
+abbrev entry9 : Entry
+entry9 = by 5 (Caller 0) Acked
+
+abbrev pub past9 : List Entry
+past9 = entry9 ∷ past8
+
+pub follows9 : Follows orders past9
+follows9 = (first orders entry9 past8 (omega arith) (inr (omega arith)) refl (quiet past8 refl) ((refl, one_vcpu orders past8 _ refl follows8 (λ i n. false_true i))) refl, follows8)
+
+abbrev entry10 : Entry
+entry10 = by 6 (Caller 0) (Change (Attr (record { lo = 0; hi = 1 }) Private))
+
+abbrev pub past10 : List Entry
+past10 = entry10 ∷ past9
+
+pub follows10 : Follows orders past10
+follows10 = (first orders entry10 past9 (omega arith) (inr (omega arith)) refl (quiet past9 refl) (((refl, refl), refl)) refl, follows9)
+
+abbrev entry11 : Entry
+entry11 = by 7 (Caller 0) End
+
+abbrev pub past11 : List Entry
+past11 = entry11 ∷ past10
+
+pub follows11 : Follows orders past11
+follows11 = (first orders entry11 past10 (omega arith) (inr (omega arith)) refl (quiet past10 refl) (refl) refl, follows10)
+
+abbrev entry12 : Entry
+entry12 = by 7 (Caller 0) (Answer (GoodReply 0))
+
+abbrev pub past12 : List Entry
+past12 = entry12 ∷ past11
+
+pub follows12 : Follows orders past12
+follows12 = (further orders entry12 past11 (omega arith) (inl (refl, refl)) refl refl ((refl, (refl, refl))), follows11)
+
+abbrev entry13 : Entry
+entry13 = by 8 (Vcpu 0) Flush
+
+abbrev pub past13 : List Entry
+past13 = entry13 ∷ past12
+
+pub follows13 : Follows orders past13
+follows13 = (first orders entry13 past12 (omega arith) (inr (omega arith)) refl (quiet past12 refl) (refl) refl, follows12)
+
+abbrev entry14 : Entry
+entry14 = by 8 (Vcpu 0) Enter
+
+abbrev pub past14 : List Entry
+past14 = entry14 ∷ past13
+
+pub follows14 : Follows orders past14
+follows14 = (further orders entry14 past13 (omega arith) (inl (refl, refl)) refl refl (record { outside = refl; no_fault = refl; flushed_before = refl; waiting = tt }), follows13)
+
+abbrev entry15 : Entry
+entry15 = by 9 (Vcpu 0) (Miss (record { page = 0; word = 0; op = (Write 7); kind = Private }))
+
+abbrev pub past15 : List Entry
+past15 = entry15 ∷ past14
+
+pub follows15 : Follows orders past15
+follows15 = (first orders entry15 past14 (omega arith) (inr (omega arith)) refl (quiet past14 refl) (record { not_served = record { is_inside = refl; no_fill = refl; no_leaf = refl }; command = refl }) refl, follows14)
+
+abbrev entry16 : Entry
+entry16 = by 10 (Vcpu 0) (Sample 15)
+
+abbrev pub past16 : List Entry
+past16 = entry16 ∷ past15
+
+pub follows16 : Follows orders past16
+follows16 = (first orders entry16 past15 (omega arith) (inr (omega arith)) refl (quiet past15 refl) ((tt, record { after_miss = omega arith; so_far = omega arith })) refl, follows15)
+
+abbrev entry17 : Entry
+entry17 = by 11 (Vcpu 0) (Look 16 (Some 0) Private (Some 0))
+
+abbrev pub past17 : List Entry
+past17 = entry17 ∷ past16
+
+pub follows17 : Follows orders past17
+follows17 = (first orders entry17 past16 (omega arith) (inr (omega arith)) refl (quiet past16 refl) ((tt, record { after_sample = omega arith; so_far = omega arith; right_slot = refl; right_file = refl; right_attr = refl })) refl, follows16)
+
+abbrev entry18 : Entry
+entry18 = by 12 (Vcpu 0) (Get (InFolio (record { serial = 0; frame = 0 })) 1)
+
+abbrev pub past18 : List Entry
+past18 = entry18 ∷ past17
+
+pub follows18 : Follows orders past18
+follows18 = (first orders entry18 past17 (omega arith) (inr (omega arith)) refl (quiet past17 refl) ((tt, (refl, omega arith), λ h. (refl, inr (record { pages = refl; index_is = refl; frame = record { below = omega arith; free = refl; lowest = λ q k. absurd (none_lower q k) } }, λ t. false_true t.in_file.0)))) refl, follows17)
+
+abbrev entry19 : Entry
+entry19 = by 13 (Caller 0) (Judge (Punch 0 0 4096))
+
+abbrev pub past19 : List Entry
+past19 = entry19 ∷ past18
+
+pub follows19 : Follows orders past19
+follows19 = (first orders entry19 past18 (omega arith) (inr (omega arith)) refl (quiet past18 refl) (record { command = refl; none_in_progress = refl; locks_free = one_caller orders past18 (Punch 0 0 4096) refl follows18 }) refl, follows18)
+
+abbrev entry20 : Entry
+entry20 = by 14 (Caller 0) (Begin (record { list = (record { lo = 0; hi = 1 }) ∷ []; spare = 0 }))
+
+abbrev pub past20 : List Entry
+past20 = entry20 ∷ past19
+
+pub follows20 : Follows orders past20
+follows20 = (first orders entry20 past19 (omega arith) (inr (omega arith)) refl (quiet past19 refl) ((refl, ((Cut 0 0 1), refl))) refl, follows19)
+
+abbrev entry21 : Entry
+entry21 = by 15 (Caller 0) Acked
+
+abbrev pub past21 : List Entry
+past21 = entry21 ∷ past20
+
+pub follows21 : Follows orders past21
+follows21 = (first orders entry21 past20 (omega arith) (inr (omega arith)) refl (quiet past20 refl) ((refl, one_vcpu orders past20 _ refl follows20 (λ i n. false_true i))) refl, follows20)
+
+abbrev entry22 : Entry
+entry22 = by 16 (Caller 0) (Change (Cut 0 0 1))
+
+abbrev pub past22 : List Entry
+past22 = entry22 ∷ past21
+
+pub follows22 : Follows orders past22
+follows22 = (first orders entry22 past21 (omega arith) (inr (omega arith)) refl (quiet past21 refl) (((refl, refl), refl)) refl, follows21)
+
+freed22 : AllFreed past22
+freed22 l s (inl c) = inl (inr (0, one_cached c.0 c.1 s (record { file = 0; index = 0; folio = record { serial = 0; frame = 0 } }) c.2 c.3 c.4))
+freed22 l s (inr h) = inl (inr (0, one_holder orders past21 s refl follows21 h))
+
+abbrev entry23 : Entry
+entry23 = by 17 (Caller 0) End
+
+abbrev pub past23 : List Entry
+past23 = entry23 ∷ past22
+
+pub follows23 : Follows orders past23
+follows23 = (first orders entry23 past22 (omega arith) (inr (omega arith)) refl (freed22) (refl) refl, follows22)
+
+abbrev entry24 : Entry
+entry24 = by 17 (Caller 0) (Answer (GoodReply 0))
+
+abbrev pub past24 : List Entry
+past24 = entry24 ∷ past23
+
+pub follows24 : Follows orders past24
+follows24 = (further orders entry24 past23 (omega arith) (inl (refl, refl)) refl refl ((refl, (refl, refl))), follows23)
+
+abbrev entry25 : Entry
+entry25 = by 18 (Vcpu 0) Retry
+
+abbrev pub past25 : List Entry
+past25 = entry25 ∷ past24
+
+pub follows25 : Follows orders past25
+follows25 = (first orders entry25 past24 (omega arith) (inr (omega arith)) refl (quiet past24 refl) (refl) refl, follows24)
+
+abbrev entry26 : Entry
+entry26 = by 18 (Vcpu 0) (Free (record { serial = 0; frame = 0 }) 1)
+
+abbrev pub past26 : List Entry
+past26 = entry26 ∷ past25
+
+pub follows26 : Follows orders past26
+follows26 = (further orders entry26 past25 (omega arith) (inl (refl, refl)) refl refl (record { some = omega arith; live = λ k h. subst (λ (j : ℕ). frame_of (0 + j) (flat past25).folios ≡ Some (0 + j)) (below k h) refl; not_cached = λ k h c. none_is c.2 c.3; not_held = λ k h x. one_holder orders past25 (0 + k) refl follows25 x; placed = refl }), follows25)
+
+freed26 : AllFreed past26
+freed26 l s (inl c) = absurd (none_is c.2 c.3)
+freed26 l s (inr h) = inr (subst (λ (k : ℕ). is_live k (flat past26).folios ≡ false) (one_holder orders past24 s refl follows24 h) refl)
+
+abbrev entry27 : Entry
+entry27 = by 19 (Vcpu 0) Flush
+
+abbrev pub past27 : List Entry
+past27 = entry27 ∷ past26
+
+pub follows27 : Follows orders past27
+follows27 = (first orders entry27 past26 (omega arith) (inr (omega arith)) refl (freed26) (refl) refl, follows26)
+
+abbrev entry28 : Entry
+entry28 = by 19 (Vcpu 0) Enter
+
+abbrev pub past28 : List Entry
+past28 = entry28 ∷ past27
+
+pub follows28 : Follows orders past28
+follows28 = (further orders entry28 past27 (omega arith) (inl (refl, refl)) refl refl (record { outside = refl; no_fault = refl; flushed_before = refl; waiting = tt }), follows27)
+
+abbrev entry29 : Entry
+entry29 = by 20 (Vcpu 0) (Miss (record { page = 0; word = 0; op = (Write 7); kind = Private }))
+
+abbrev pub past29 : List Entry
+past29 = entry29 ∷ past28
+
+pub follows29 : Follows orders past29
+follows29 = (first orders entry29 past28 (omega arith) (inr (omega arith)) refl (quiet past28 refl) (record { not_served = record { is_inside = refl; no_fill = refl; no_leaf = refl }; command = refl }) refl, follows28)
+
+abbrev entry30 : Entry
+entry30 = by 21 (Vcpu 0) (Sample 29)
+
+abbrev pub past30 : List Entry
+past30 = entry30 ∷ past29
+
+pub follows30 : Follows orders past30
+follows30 = (first orders entry30 past29 (omega arith) (inr (omega arith)) refl (quiet past29 refl) ((tt, record { after_miss = omega arith; so_far = omega arith })) refl, follows29)
+
+abbrev entry31 : Entry
+entry31 = by 22 (Vcpu 0) (Look 30 (Some 0) Private (Some 0))
+
+abbrev pub past31 : List Entry
+past31 = entry31 ∷ past30
+
+pub follows31 : Follows orders past31
+follows31 = (first orders entry31 past30 (omega arith) (inr (omega arith)) refl (quiet past30 refl) ((tt, record { after_sample = omega arith; so_far = omega arith; right_slot = refl; right_file = refl; right_attr = refl })) refl, follows30)
+
+abbrev entry32 : Entry
+entry32 = by 23 (Vcpu 0) (Get (InFolio (record { serial = 1; frame = 0 })) 1)
+
+abbrev pub past32 : List Entry
+past32 = entry32 ∷ past31
+
+pub follows32 : Follows orders past32
+follows32 = (first orders entry32 past31 (omega arith) (inr (omega arith)) refl (quiet past31 refl) ((tt, (refl, omega arith), λ h. (refl, inr (record { pages = refl; index_is = refl; frame = record { below = omega arith; free = refl; lowest = λ q k. absurd (none_lower q k) } }, λ t. false_true t.in_file.0)))) refl, follows31)
+
+abbrev entry33 : Entry
+entry33 = by 24 (Vcpu 0) (Install 0 Small)
+
+abbrev pub past33 : List Entry
+past33 = entry33 ∷ past32
+
+pub follows33 : Follows orders past33
+follows33 = (first orders entry33 past32 (omega arith) (inr (omega arith)) refl (quiet past32 refl) (((refl, refl), λ w. false_true w.is_huge)) refl, follows32)
+
+abbrev entry34 : Entry
+entry34 = by 25 (Vcpu 0) Enter
+
+abbrev pub past34 : List Entry
+past34 = entry34 ∷ past33
+
+pub follows34 : Follows orders past34
+follows34 = (first orders entry34 past33 (omega arith) (inr (omega arith)) refl (quiet past33 refl) (record { outside = refl; no_fault = refl; flushed_before = refl; waiting = tt }) refl, follows33)
+
+abbrev entry35 : Entry
+entry35 = by 26 (Vcpu 0) (Touch (record { page = 0; word = 0; op = (Write 7); kind = Private }) (InFolio (record { serial = 1; frame = 0 })) Small 7 34)
+
+abbrev pub past35 : List Entry
+past35 = entry35 ∷ past34
+
+pub follows35 : Follows orders past35
+follows35 = (first orders entry35 past34 (omega arith) (inr (omega arith)) refl (quiet past34 refl) (record { is_inside = refl; is_served = (refl, refl, refl); right_value = refl; command = refl }) refl, follows34)
+
+pub is_ruled : Ruled orders past35
+is_ruled = record { follows = follows35; row = refl; freed = quiet past35 refl }

@@ -1,0 +1,101 @@
+-- A change that its table allows is safe, by the locks.
+use Rattle.std.proofs.Common.{◌&&◌, List, None, Option, Some, [], ap, false, inl, inr, leb, ltb, refl, subst, sym, true, ℕ, ◌∙◌, ◌∷◌, ◌≡◌, ◌⊎◌}
+use Rattle.std.proofs.lemmas.Bool.{and_from, and_parts, both_ways}
+use Rattle.gm_base.specs.Extent.{Extent}
+use Rattle.gm_base.specs.declared.calls.Ioctl.{Ioctl}
+use Rattle.gm_base.specs.declared.values.Setup.{Setup}
+use Rattle.gm_flat.specs.Calls.{Bracketed, Plan, Short, plan}
+use Rattle.gm_flat.specs.FlatState.{Flat, in_use}
+use Rattle.gm_flat.specs.Histories.{Bracket, Call, bracket, call}
+use Rattle.gm_flat.specs.Locks.{FileLock, takes, takes_file, takes_slots}
+use Rattle.gm_flat.specs.Mappings.{any_holds}
+use Rattle.gm_flat.specs.Replay.{flat, flat_at}
+use Rattle.gm_flat.specs.Slots.{index_of, lies_over}
+use Rattle.gm_flat.specs.Window.{has_file, in_cut, in_old_or_new, in_slot, is_on}
+use Rattle.gm_flat.specs.declared.effect.Effect.{Effect}
+use Rattle.gm_flat.specs.declared.effect.Effect.TheVariants.{Attr, Cut, File, Move, NoSlot, Shut, Slot, Word}
+use Rattle.gm_flat.specs.declared.entry.Entry.{Entry}
+use Rattle.gm_flat.specs.declared.views.SlotView.{SlotView}
+use Rattle.gm_laws.proofs.Flats.{of_file, over, with_id}
+use Rattle.gm_laws.proofs.Ids.{MemSlot}
+use Rattle.gm_laws.proofs.KeepCaller.{Safe}
+use Rattle.gm_laws.proofs.Kit.{cond_is, none_is, some_same}
+use Rattle.gm_laws.proofs.Locks.{Locks, MemRow-bound, MemRow-unbound, bound}
+use Rattle.gm_laws.proofs.LocksKeep.{CanChange}
+use Rattle.gm_laws.proofs.Plans.{Fits, fits}
+
+pub over_mem : (g : ℕ) (r : SlotView) (rs : List SlotView) → over g rs ≡ Some r → MemSlot r rs × (lies_over r g ≡ true)
+over_mem g r [] e = absurd (none_is r e)
+over_mem g r (x ∷ xs) e =
+    elim (cond_is (lies_over x g) (Some x) (over g xs) (Some r) e) [
+      | inl y ↦ let s : x ≡ r = some_same x r y.1 in (inl (sym s), ap (λ (z : SlotView). lies_over z g) (sym s) ∙ y.0)
+      | inr y ↦ let z = over_mem g r xs y.1 in (inr z.0, z.1)
+    ]
+
+-- the row over a page of a file is there in the other state too
+same_row : (F g : ℕ) (r : SlotView) (f h : Flat) → bound F f.slots ≡ bound F h.slots → over g f.slots ≡ Some r → of_file F r.file ≡ true → MemSlot r h.slots × (lies_over r g ≡ true)
+same_row F g r f h same e k =
+    let m = over_mem g r f.slots e in
+    (MemRow-unbound F r h.slots (subst (λ (rs : List SlotView). MemSlot r rs) same (MemRow-bound F r f.slots m.0 k)), m.1)
+
+cut_on : (F lo hi g : ℕ) (f h : Flat) (o : Option SlotView) → bound F f.slots ≡ bound F h.slots → over g f.slots ≡ o → in_cut F lo hi g o ≡ true → (r : SlotView) × MemSlot r h.slots × (lies_over r g ≡ true) × (of_file F r.file ≡ true) × ((leb lo (index_of r g) && ltb (index_of r g) hi) ≡ true)
+cut_on F lo hi g f h None same e k = absurd (both_ways false refl k)
+cut_on F lo hi g f h (Some r) same e k =
+    let p = and_parts (of_file F r.file) (leb lo (index_of r g) && ltb (index_of r g) hi) k in
+    let m = same_row F g r f h same e p.0 in
+    (r, m.0, m.1, p.0, p.1)
+
+shut_on : (F g : ℕ) (f h : Flat) (o : Option SlotView) → bound F f.slots ≡ bound F h.slots → over g f.slots ≡ o → has_file F o ≡ true → (r : SlotView) × MemSlot r h.slots × (lies_over r g ≡ true) × (of_file F r.file ≡ true)
+shut_on F g f h None same e k = absurd (both_ways false refl k)
+shut_on F g f h (Some r) same e k = let m = same_row F g r f h same e k in (r, m.0, m.1, k)
+
+safe_bracket : (e : Effect) (i : Ioctl) (h f : Flat) (spans : List Extent) → (takes_slots i ≡ true → f.slots ≡ h.slots) → ((F : ℕ) → takes (FileLock F) i h ≡ true → bound F f.slots ≡ bound F h.slots) → Fits i h (Bracketed e spans) → (g : ℕ) → is_on e f g ≡ true → (any_holds spans g ≡ true) ⊎ (over g f.slots ≡ None)
+safe_bracket (NoSlot id) i h f spans slots bounds x g on = inl (x.1 g (ap (λ (rs : List SlotView). in_slot g (with_id id rs)) (sym (slots x.0)) ∙ on))
+safe_bracket (Move id base) i h f spans slots bounds x g on =
+    elim (x.1 g (ap (λ (rs : List SlotView). in_old_or_new g base (with_id id rs)) (sym (slots x.0)) ∙ on)) [
+      | inl y ↦ inl y
+      | inr y ↦ inr (ap (over g) (slots x.0) ∙ y)
+    ]
+safe_bracket (Attr span kind) i h f spans slots bounds x g on = inl (x.1 g on)
+safe_bracket (Cut F lo hi) i h f spans slots bounds x g on =
+    let r = cut_on F lo hi g f h (over g f.slots) (bounds F (and_from (takes_file F i h) (in_use F h.files) x.0 x.1)) refl on in
+    inl (x.2 g r.0 r.1 r.2 r.3 r.4)
+safe_bracket (Shut F) i h f spans slots bounds x g on =
+    let r = shut_on F g f h (over g f.slots) (bounds F (and_from (takes_file F i h) (in_use F h.files) x.1 x.2)) refl on in
+    inl (x.3 g r.0 r.1 r.2 r.3)
+safe_bracket (Slot id base pages user flags file index) i h f spans slots bounds x g on = absurd x
+safe_bracket (File file pages block) i h f spans slots bounds x g on = absurd x
+safe_bracket (Word page word value) i h f spans slots bounds x g on = absurd x
+
+safe_short : (e : Effect) (i : Ioctl) (n : ℕ) (h : Flat) → Fits i h (Short e n) → (g : ℕ) → is_on e h g ≡ true → over g h.slots ≡ None
+safe_short (Slot id base pages user flags file index) i n h x g on = x.1 g on
+safe_short (File file pages block) i n h x g on = absurd (both_ways false refl on)
+safe_short (Word page word value) i n h x g on = absurd (both_ways false refl on)
+safe_short (NoSlot id) i n h x g on = absurd x
+safe_short (Move id base) i n h x g on = absurd x
+safe_short (Attr span kind) i n h x g on = absurd x
+safe_short (Cut F lo hi) i n h x g on = absurd x
+safe_short (Shut F) i n h x g on = absurd x
+
+same_spans : (e f : Effect) (a b : List Extent) → Bracketed e a ≡ Bracketed f b → a ≡ b
+same_spans e f a b h = cc
+
+same_plan : (s : Setup) (d : ℕ) (x y : Call) (past : List Entry) (e f : Effect) (a b : List Extent) → call d past ≡ Some x → call d past ≡ Some y → plan s x.ioctl (flat_at x.judged past) ≡ Bracketed e a → plan s y.ioctl (flat_at y.judged past) ≡ Bracketed f b → a ≡ b
+same_plan s d x y past e f a b ex ey p q =
+    let same : x ≡ y = some_same x y (sym ex ∙ ey) in
+    same_spans e f a b (sym p ∙ (ap (λ (z : Call). plan s z.ioctl (flat_at z.judged past)) same ∙ q))
+
+pub safe : (s : Setup) (e : Effect) (d : ℕ) (past : List Entry) (c : Option Call) (o : Option Bracket) → Locks s past → call d past ≡ c → bracket d past ≡ o → CanChange s e past c o → Safe e d past
+safe s e d past None o k ec eo m g on = absurd m
+safe s e d past (Some y) None k ec eo m g on =
+    let same : flat past ≡ flat_at y.judged past = k.at_once d y ec m.1.0 in
+    let x = safe_short e y.ioctl m.1.1.0 (flat_at y.judged past) (subst (λ (p : Plan). Fits y.ioctl (flat_at y.judged past) p) m.1.1.1 (fits s y.ioctl (flat_at y.judged past))) g (subst (λ (f : Flat). is_on e f g ≡ true) same on) in
+    inr (subst (λ (f : Flat). over g f.slots ≡ None) (sym same) x)
+safe s e d past (Some y) (Some b) k ec eo m g on =
+    elim (safe_bracket e y.ioctl (flat_at y.judged past) (flat past) m.1.1.0 (λ t. k.slots_same d y ec m.0 t) (λ F t. k.bound_same d F y ec m.0 t) (subst (λ (p : Plan). Fits y.ioctl (flat_at y.judged past) p) m.1.1.1 (fits s y.ioctl (flat_at y.judged past))) g on) [
+      | inl z ↦
+          let p = k.planned d b eo in
+          let q : m.1.1.0 ≡ b.spans = same_plan s d y p.0 past e p.2.0 m.1.1.0 b.spans ec p.1 m.1.1.1 p.2.1 in
+          inl (b, eo, m.1.0, subst (λ (ss : List Extent). any_holds ss g ≡ true) q z)
+      | inr z ↦ inr z
+    ]

@@ -1,0 +1,4 @@
+pub mod Contents
+pub mod May
+pub mod Ruled
+pub mod TouchesNow

@@ -1,0 +1,3 @@
+pub mod EachSet
+pub mod Reversed
+pub mod Ties

@@ -1,0 +1,139 @@
+//! The machine.
+
+ghost use Rattle.std.specs.Prelude.{◌≡◌, ◌+◌, ◌-◌, ◌^◌, ◌<◌, ◌≤◌, true, false, [], length, reverse, OnOk, OnErr, IfOk};
+ghost use Rattle.gm_base.specs.Scripts.{IsOf};
+ghost use Rattle.gm_flat.specs.Histories.{gone};
+ghost use Rattle.gm_machine.specs.Flags.{flag_of, with_flag, no_flags};
+ghost use Rattle.gm_machine.specs.Steps.{IsVcpu, StepsTo};
+
+use crate::flags::ActorFlags;
+use crate::fresh::fresh;
+use crate::log::Log;
+use crate::outcome::{How, Outcome};
+use crate::parts::Parts;
+use crate::turns::take_turn;
+use gm_base::{Actor, NoMemory, Setup};
+use gm_flat::Entry;
+use gm_script::Script;
+use std::alloc::Global;
+use std::marker::Model;
+
+/// The core and the history of its turns.
+#[derive(Drop)]
+pub struct Machine {
+    parts: Parts,
+    log: Log,
+    turns: u64,
+    room: ActorFlags,
+}
+
+impl Model for Machine {
+    ghost use Rattle.gm_machine.specs.Steps.{Seen};
+
+    ghost Value = { Seen };
+
+    ghost use Rattle.gm_machine.specs.Settled.{orders_of, Settled};
+
+    ghost view = { λ m. record { orders = orders_of m.parts; past = m.log.past; turns = m.turns; room = m.room } };
+
+    ghost invariant = { λ m. Settled m.parts m.log m.room };
+}
+
+impl Machine {
+    /// A machine with an empty history, and with the setup and the commands of the script. No actor has room.
+    pub fn new(alloc: Global, script: &Script) -> Result<Machine, NoMemory>
+        ensures { IfOk result (λ m. m ≡ record { orders = script.now.orders; past = []; turns = 0; room = no_flags script.now.orders.setup.vcpus script.now.orders.setup.callers }) }
+    {
+        let parts = fresh(alloc, script)?;
+        let setup = script.setup();
+        let room = ActorFlags::new(alloc, setup.vcpus, setup.callers)?;
+        Ok(Machine {
+            parts,
+            log: Log::new(alloc),
+            turns: 0,
+            room,
+        })
+    }
+
+    /// Makes room for one turn of the actor, which must be one of the setup's. After `NoMemory` contracts see the
+    /// machine as before.
+    pub fn make_room(&mut self, actor: Actor) -> Result<(), NoMemory>
+        requires { IsOf self.old.orders.setup actor }
+        ensures ok { OnOk result (self.new ≡ record self.old { room = with_flag self.old.room actor }) }
+        ensures room { OnOk result (flag_of self.new.room actor ≡ true) }
+        ensures err { OnErr result (self.new ≡ self.old) }
+    {
+        self.log.reserve(3)?;
+        self.parts.slots.reserve()?;
+        self.parts.leaves.reserve()?;
+        self.room.set(actor);
+        Ok(())
+    }
+
+    /// Whether the actor, which must be one of the setup's, has room for a turn.
+    pub fn has_room(&self, actor: Actor) -> bool
+        requires { IsOf self.now.orders.setup actor }
+        ensures { result ≡ flag_of self.now.room actor }
+    {
+        self.room.has(actor)
+    }
+
+    /// Takes the actor's next turn, or kicks a vCPU. It takes no memory. A turn that writes uses up all room.
+    pub fn step(&mut self, actor: Actor, how: How) -> Outcome
+        requires actor { IsOf self.old.orders.setup actor }
+        requires room { flag_of self.old.room actor ≡ true }
+        requires turns { self.old.turns < 2 ^ 64 - 1 }
+        requires kick { how ≡ How.Kick → IsVcpu actor }
+        ensures { StepsTo self.old self.new actor how result }
+    {
+        match how {
+            How::Kick => Outcome::Nothing,
+            How::Next => {
+                if take_turn(&mut self.parts, &mut self.log, self.turns + 1, actor) {
+                    self.turns += 1;
+                    self.room.clear();
+                    Outcome::Moved
+                } else {
+                    Outcome::Done
+                }
+            }
+        }
+    }
+
+    /// Counts a turn that wrote nothing.
+    pub fn blank(&mut self)
+        requires { self.old.turns < 2 ^ 64 - 1 }
+        ensures { self.new ≡ record self.old { turns = self.old.turns + 1 } }
+    {
+        self.turns += 1;
+    }
+
+    /// Whether the actor, which must be one of the setup's, has written `gone`.
+    pub fn finished(&self, actor: Actor) -> bool
+        requires { IsOf self.now.orders.setup actor }
+        ensures { result ≡ gone actor self.now.past }
+    {
+        self.parts.gone.has(actor)
+    }
+
+    /// The history, the oldest entry first.
+    pub fn history(&self) -> &[Entry]
+        ensures { self.now.past ≡ reverse result.now }
+    {
+        self.log.entries()
+    }
+
+    /// How many turns were taken or counted.
+    pub fn turns(&self) -> u64
+        ensures { result ≡ self.now.turns }
+    {
+        self.turns
+    }
+
+    /// The setup.
+    pub fn setup(&self) -> Setup
+        ensures { result ≡ self.now.orders.setup }
+    {
+        self.parts.setup
+    }
+}

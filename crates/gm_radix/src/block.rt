@@ -1,0 +1,46 @@
+//! Aligned blocks of indexes.
+
+ghost use Rattle.std.specs.Prelude.{◌<◌, ◌≤◌};
+ghost use Rattle.gm_base.specs.declared.numbers.TheConstants.{PAGE_LIMIT};
+
+use gm_base::PAGE_LIMIT;
+
+/// A block of 2^n indexes that begins at a multiple of 2^n, in two halves: its first index, the first one of the
+/// second half, and the one after the last.
+#[derive(Clone, Copy)]
+pub(crate) struct Block {
+    pub first: u64,
+    pub pivot: u64,
+    pub end: u64,
+}
+
+/// The least block that has the two indexes in different halves.
+pub(crate) fn block_over(low: u64, high: u64) -> Block
+    requires order { low < high }
+    requires limit { high < PAGE_LIMIT }
+    ensures first { result.first ≤ low }
+    ensures above { low < result.pivot }
+    ensures pivot { result.pivot ≤ high }
+    ensures last { high < result.end }
+    ensures limit { result.end ≤ PAGE_LIMIT }
+{
+    let mask = ones_up_to_highest(low ^ high);
+    // The minima and maxima change no number. They keep the order of the parts plain, whatever the bits are.
+    Block {
+        first: (high & !mask).min(low),
+        pivot: (high & !(mask >> 1)).max(low + 1).min(high),
+        end: (high | mask).max(high).min(PAGE_LIMIT - 1) + 1,
+    }
+}
+
+// All bits up to the highest one of the number.
+fn ones_up_to_highest(number: u64) -> u64 {
+    let mut mask = number;
+    mask |= mask >> 1;
+    mask |= mask >> 2;
+    mask |= mask >> 4;
+    mask |= mask >> 8;
+    mask |= mask >> 16;
+    mask |= mask >> 32;
+    mask
+}

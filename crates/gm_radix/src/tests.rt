@@ -1,0 +1,59 @@
+use super::*;
+use crate::block::block_over;
+use gm_base::PAGE_LIMIT;
+use std::test::Fail;
+
+fn crosses_threads<T: Send + Sync>() {}
+
+#[test]
+fn types_cross_threads() {
+    crosses_threads::<Radix<u64>>();
+}
+
+#[test]
+fn the_ends_of_the_ranges(rt: HostRuntime) -> Result<(), Fail> {
+    let last = PAGE_LIMIT - 1;
+    let mut map = Radix::new(rt.alloc());
+    for index in [last, 0, 513, 512, 1] {
+        map.reserve(1).ok().ok_or("memory")?;
+        map.insert(index, index + 7);
+    }
+    assert_eq!(rt; map.get(last), Some(last + 7));
+    assert_eq!(rt; map.get(2), None);
+    assert_eq!(rt; map.first_gap(0), 2);
+    assert_eq!(rt; map.first_gap(last), PAGE_LIMIT);
+    assert_eq!(rt; map.discard(1, 514), 3);
+    assert_eq!(rt; map.discard(0, PAGE_LIMIT), 2);
+    assert_eq!(rt; map.get(0), None);
+    Ok(())
+}
+
+#[test]
+fn drains_into_a_list(rt: HostRuntime) -> Result<(), Fail> {
+    let mut map = Radix::new(rt.alloc());
+    map.reserve(1).ok().ok_or("memory")?;
+    map.insert(3, 7);
+    let mut taken = Vec::with_capacity(rt.alloc(), 1)?;
+    map.drain(3, 4, &mut taken);
+    assert_eq!(rt; taken.as_slice(), [(3, 7)].as_slice());
+    assert_eq!(rt; map.get(3), None);
+    Ok(())
+}
+
+#[test]
+fn blocks_are_aligned(rt: HostRuntime) -> Result<(), Fail> {
+    for (low, high, first, pivot, end) in [
+        (0, 1, 0, 1, 2),
+        (5, 9, 0, 8, 16),
+        (512, 1023, 512, 768, 1024),
+        (0, PAGE_LIMIT - 1, 0, PAGE_LIMIT / 2, PAGE_LIMIT),
+    ] {
+        let block = block_over(low, high);
+        assert_eq!(rt;
+            (block.first, block.pivot, block.end),
+            (first, pivot, end),
+            "{low} to {high}"
+        );
+    }
+    Ok(())
+}

@@ -1,0 +1,11 @@
+use Rattle.std.proofs.Common.{List, ℕ}
+use Rattle.std.proofs.KnownBytes.{Consumes-whole}
+use Rattle.gmemrun.specs.Running.{Ran, WroteFront}
+use Rattle.gmemrun.proofs.run.run_steps.Goals as goal
+
+pub returns-in-Ok-clause-front : goal.returns-in-Ok-clause-front
+returns-in-Ok-clause-front g c = λ h.
+    Consumes-whole (g.S.Source.left c.args.source.now) (g.S.Source.left c.read_all.new.source) c.in-Ok.bytes.items
+    (λ (bytes : List ℕ). WroteFront bytes (g.K.Sink.held c.args.sink.now) (g.K.Sink.held c.run_bytes.new.sink))
+    c.in-Ok.ensures.bytes.consumes c.in-Ok.ensures.bytes.end
+    (rw c.deref.ensures.value at (c.run_bytes.ensures.front h))

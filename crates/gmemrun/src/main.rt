@@ -1,0 +1,48 @@
+//! `gmemrun steps` reads a script from standard input and writes the history of its turns to standard output.
+#![tactic(auto)]
+
+mod read;
+mod refusal;
+mod run;
+mod status;
+mod top;
+
+use gm_io::{OpenGate, ReaderSource, WriterSink};
+pub use run::run_steps;
+pub use status::Status;
+use std::alloc::{AllocError, Global};
+use std::process::ExitCode;
+use std::{env, io};
+pub use top::run as run_words;
+
+// The number with which the program ends where the runtime refuses its words. No status has it.
+const WORDS_REFUSED: u8 = 9;
+
+// The words after the program's name.
+fn words(rt: &HostRuntime) -> io::Result<Vec<String>> {
+    let mut words = Vec::new(rt.alloc());
+    for word in env::args(rt)?.skip(1) {
+        words.push(word)?;
+    }
+    Ok(words)
+}
+
+fn main(rt: HostRuntime) -> ExitCode {
+    let words = match words(&rt) {
+        Ok(words) => words,
+        Err(error) => {
+            let number = match error.kind() {
+                io::ErrorKind::OutOfMemory => Status::NoMemory.number(),
+                _ => WORDS_REFUSED,
+            };
+            return ExitCode::from(number);
+        }
+    };
+    let mut source = ReaderSource::new(rt.reader());
+    let mut sink = WriterSink::new(io::writer(&rt));
+    let status = run_words(&rt, rt.alloc(), &words, &mut source, &mut sink, &OpenGate);
+    ExitCode::from(status.number())
+}
+
+#[cfg(test)]
+mod tests;

@@ -1,0 +1,78 @@
+//! Reads a source to its end.
+
+ghost use Rattle.std.specs.Prelude.{◌≡◌, ◌+◌, ◌++◌, ◌<◌, ◌≤◌, List, ℕ, length, take, IfOk, OnOk, IsErrOf};
+ghost use Rattle.std.specs.Io.KnownBytes.{Consumes, IsAtEnd};
+ghost use Rattle.gm_io.specs.Causes.{Rose};
+ghost use Rattle.gmemrun.specs.Reading.{ReadAll, TookTooMuch};
+
+use gm_base::{MOST_SCRIPT_BYTES, NoMemory};
+use gm_io::Source;
+use std::alloc::Global;
+
+/// Why a source wasn't read to its end.
+#[derive(Clone, Copy, Debug, PartialEq, Eq)]
+pub enum Unread {
+    Failed,
+    TooLong,
+    NoMemory,
+}
+
+// A source is asked for pieces of this size, so that a script takes few calls.
+const PIECE: usize = 65_536;
+
+/// Reads all, at most 16,777,216 bytes. `TooLong` comes where one byte more was taken.
+pub fn read_all<S: Source>(alloc: Global, source: &mut S) -> Result<Vec<u8>, Unread>
+    ensures bytes { IfOk result (λ v. ReadAll (S.left source.old) (S.left source.new) v.items) }
+    ensures short { IfOk result (λ v. length v.items ≤ MOST_SCRIPT_BYTES) }
+    ensures failed { IsErrOf result Unread.Failed → Rose (S.faults source.old) (S.faults source.new) }
+    ensures long { IsErrOf result Unread.TooLong → TookTooMuch (S.left source.old) (S.left source.new) }
+    ensures later { S.faults source.old ≤ S.faults source.new }
+{
+    let mut bytes = Vec::new(alloc);
+    let mut buffer = match empty_buffer(alloc) {
+        Ok(buffer) => buffer,
+        Err(NoMemory) => return Err(Unread::NoMemory),
+    };
+    while bytes.len() <= MOST_SCRIPT_BYTES {
+        match read_some(source, &mut buffer, &mut bytes) {
+            Ok(0) => return Ok(bytes),
+            Ok(_) => {}
+            Err(unread) => return Err(unread),
+        }
+    }
+    Err(Unread::TooLong)
+}
+
+fn empty_buffer(alloc: Global) -> Result<Vec<u8>, NoMemory>
+    ensures { IfOk result (λ v. length v.items ≡ 65536) }
+{
+    let buffer = vec![in alloc; 0u8; PIECE]?;
+    Ok(buffer)
+}
+
+// Reads some more, and no more than one byte past the most.
+fn read_some<S: Source>(
+    source: &mut S,
+    buffer: &mut Vec<u8>,
+    bytes: &mut Vec<u8>,
+) -> Result<usize, Unread>
+    requires short { length bytes.old.items ≤ MOST_SCRIPT_BYTES }
+    requires room { length buffer.old.items ≡ 65536 }
+    ensures bytes { IfOk result (λ n. (more : List ℕ) × (length more ≡ n) × (bytes.new.items ≡ bytes.old.items ++ more) × Consumes (S.left source.old) (S.left source.new) more) }
+    ensures end { IfOk result (λ n. n ≡ 0 → IsAtEnd (S.left source.new)) }
+    ensures short { OnOk result (length bytes.new.items ≤ MOST_SCRIPT_BYTES + 1) }
+    ensures room { length buffer.new.items ≡ 65536 }
+    ensures later { S.faults source.old ≤ S.faults source.new }
+    ensures failed { IsErrOf result Unread.Failed → Rose (S.faults source.old) (S.faults source.new) }
+    ensures not_long { IsErrOf result Unread.TooLong → ⊥ }
+{
+    let room = (MOST_SCRIPT_BYTES + 1 - bytes.len()).min(PIECE);
+    let piece = buffer.as_mut_slice();
+    match source.take(&mut piece[..room]) {
+        Ok(count) => match bytes.extend_from_slice(&piece[..count]) {
+            Ok(()) => Ok(count),
+            Err(_) => Err(Unread::NoMemory),
+        },
+        Err(_) => Err(Unread::Failed),
+    }
+}

@@ -1,0 +1,120 @@
+//! Runs a script's turns in their order.
+
+ghost use Rattle.std.specs.Prelude.{◌≡◌, ◌+◌, ◌<◌, ◌≤◌, ◌-◌, ◌^◌, [], length, reverse, IfOk, IfSome, OnOk, All, None, List, ℕ};
+ghost use Rattle.gm_base.specs.Scripts.{IsTurnOf};
+ghost use Rattle.gm_io.specs.Causes.{Rose};
+ghost use Rattle.gm_io.specs.Held.{Gains};
+ghost use Rattle.gm_machine.specs.Played.{PlaysTurns, PlaysTurn};
+ghost use Rattle.gmemrun.specs.Reading.{TookTooMuch};
+ghost use Rattle.gmemrun.specs.Running.{Ran, WroteFront, IsSilent, Refused};
+
+use crate::read::{Unread, read_all};
+use crate::refusal::write_refusal;
+use crate::status::Status;
+use gm_base::{NoMemory, Turn};
+use gm_io::{Sink, Source};
+use gm_machine::{How, Machine, Outcome};
+use gm_script::{Script, ScriptError, read_script};
+use gm_text::write_history;
+use std::alloc::Global;
+
+/// Reads a script, takes its turns in order and writes the history. It always returns.
+pub fn run_steps<S: Source, K: Sink>(alloc: Global, source: &mut S, sink: &mut K) -> Status
+    ensures ok { result ≡ Status.Ok → IfSome (S.left source.old) (λ bytes. Ran bytes (K.held sink.old) (K.held sink.new)) }
+    ensures bad_script { result ≡ Status.BadScript → IfSome (S.left source.old) (λ bytes. Refused bytes (K.held sink.old) (K.held sink.new)) }
+    ensures read_fault { result ≡ Status.ReadFault → Rose (S.faults source.old) (S.faults source.new) }
+    ensures write_fault { result ≡ Status.WriteFault → Rose (K.faults sink.old) (K.faults sink.new) }
+    ensures front { result ≡ Status.WriteFault → IfSome (S.left source.old) (λ bytes. WroteFront bytes (K.held sink.old) (K.held sink.new)) }
+    ensures too_long { result ≡ Status.TooLong → TookTooMuch (S.left source.old) (S.left source.new) }
+    ensures usage { result ≡ Status.Usage → ⊥ }
+    ensures nothing { IsSilent result → K.held sink.new ≡ K.held sink.old }
+{
+    match read_all(alloc, source) {
+        Ok(bytes) => run_bytes(alloc, &bytes, sink),
+        Err(Unread::Failed) => Status::ReadFault,
+        Err(Unread::TooLong) => Status::TooLong,
+        Err(Unread::NoMemory) => Status::NoMemory,
+    }
+}
+
+fn run_bytes<K: Sink>(alloc: Global, bytes: &[u8], sink: &mut K) -> Status
+    ensures ok { result ≡ Status.Ok → Ran bytes.now (K.held sink.old) (K.held sink.new) }
+    ensures bad_script { result ≡ Status.BadScript → Refused bytes.now (K.held sink.old) (K.held sink.new) }
+    ensures write_fault { result ≡ Status.WriteFault → Rose (K.faults sink.old) (K.faults sink.new) }
+    ensures front { result ≡ Status.WriteFault → WroteFront bytes.now (K.held sink.old) (K.held sink.new) }
+    ensures usage { result ≡ Status.Usage → ⊥ }
+    ensures no_read { result ≡ Status.ReadFault → ⊥ }
+    ensures not_long { result ≡ Status.TooLong → ⊥ }
+    ensures nothing { IsSilent result → K.held sink.new ≡ K.held sink.old }
+{
+    match read_script(alloc, bytes) {
+        Ok(script) => match play(alloc, &script) {
+            Ok(machine) => {
+                match write_history(sink, machine.setup(), machine.history(), machine.turns()) {
+                    Ok(()) => Status::Ok,
+                    Err(_) => Status::WriteFault,
+                }
+            }
+            Err(_) => Status::NoMemory,
+        },
+        Err(ScriptError::BadLine { line, cause }) => match write_refusal(sink, line, cause) {
+            Ok(()) => Status::BadScript,
+            Err(_) => Status::WriteFault,
+        },
+        Err(ScriptError::NoMemory) => Status::NoMemory,
+    }
+}
+
+// A machine that has taken the script's turns.
+fn play(alloc: Global, script: &Script) -> Result<Machine, NoMemory>
+    ensures orders { IfOk result (λ m. m.orders ≡ script.now.orders) }
+    ensures plays { IfOk result (λ m. PlaysTurns (reverse script.now.turns) m.past) }
+    ensures turns { IfOk result (λ m. m.turns ≡ length script.now.turns) }
+{
+    let mut machine = Machine::new(alloc, script)?;
+    take_turns(&mut machine, script.turns())?;
+    Ok(machine)
+}
+
+fn take_turns(machine: &mut Machine, turns: &[Turn]) -> Result<(), NoMemory>
+    requires empty { machine.old.past ≡ [] }
+    requires none { machine.old.turns ≡ 0 }
+    requires of { All (IsTurnOf machine.old.orders.setup) turns.now }
+    ensures orders { OnOk result (machine.new.orders ≡ machine.old.orders) }
+    ensures plays { OnOk result (PlaysTurns (reverse turns.now) machine.new.past) }
+    ensures turns { OnOk result (machine.new.turns ≡ length turns.now) }
+{
+    for turn in turns {
+        match take_one(machine, *turn) {
+            Ok(()) => {}
+            Err(refused) => return Err(refused),
+        }
+    }
+    Ok(())
+}
+
+fn take_one(machine: &mut Machine, turn: Turn) -> Result<(), NoMemory>
+    requires of { IsTurnOf machine.old.orders.setup turn }
+    requires turns { machine.old.turns < 2 ^ 64 - 1 }
+    ensures orders { OnOk result (machine.new.orders ≡ machine.old.orders) }
+    ensures step { OnOk result (PlaysTurn turn (machine.old.turns + 1) machine.old.past machine.new.past) }
+    ensures turns { OnOk result (machine.new.turns ≡ machine.old.turns + 1) }
+{
+    match turn {
+        Turn::Next(actor) => {
+            match machine.make_room(actor) {
+                Ok(()) => {}
+                Err(refused) => return Err(refused),
+            }
+            match machine.step(actor, How::Next) {
+                Outcome::Moved => {}
+                _ => machine.blank(),
+            }
+            Ok(())
+        }
+        Turn::Kick(_) => {
+            machine.blank();
+            Ok(())
+        }
+    }
+}

@@ -1,0 +1,101 @@
+use super::*;
+use gm_io::{MemorySink, MemorySource, SureSink, SureSource};
+use std::test::Fail;
+
+const SMALLEST: &[u8] = b"machine frames=4 user=4 vcpus=1 callers=1 huge=off\n";
+
+const ONE_READ: &[u8] =
+    b"machine frames=4 user=4 vcpus=1 callers=1 huge=off\nc0 region 0 0 0 16384 0 0 0\nv0 read shared 0\nturn c0\nturn v0 8\n";
+
+const SECOND_READ_AND_A_HOLE: &[u8] =
+    b"machine frames=4 user=4 vcpus=1 callers=1 huge=off\nc0 region 0 0 0 16384 0 0 0\nv0 read shared 0\nv0 read shared 0\nv0 read shared 16384\nturn c0\nturn v0 14\n";
+
+const A_WRITE_NOT_BUILT: &[u8] =
+    b"machine frames=4 user=4 vcpus=1 callers=1 huge=off\nv0 write shared 0 1\n";
+
+const HEAD: &[u8] = b"gmem-history 1\nmachine frames=4 user=4 vcpus=1 callers=1 huge=off\n";
+
+const FIRST_READ: &[u8] =
+    b"1 c0 judge region 0 0 0 16384 0 0 0\n1 c0 change slot 0 base=0 pages=4 user=0 flags=0 file=- index=0\n1 c0 answer ok=0\n2 v0 enter\n3 v0 miss read shared 0\n4 v0 sample at=5\n5 v0 look at=6 slot=0 attr=shared file=-\n6 v0 get user=0\n7 v0 install page=0 level=4k\n8 v0 enter\n9 v0 touch read shared 0 user=0 level=4k value=0 fill=10\n";
+
+const SECOND_READ: &[u8] =
+    b"10 v0 touch read shared 0 user=0 level=4k value=0 fill=10\n11 v0 miss read shared 16384\n12 v0 sample at=13\n13 v0 look at=14 slot=- attr=shared file=-\n14 v0 exit reason=6 gpa=16384\n15 v0 gone\n";
+
+// The rows over ends that never fail: the script, the status, and the pieces of the text.
+#[test]
+fn rows_over_sure_ends(rt: HostRuntime) -> Result<(), Fail> {
+    let rows: [(&[u8], Status, [&[u8]; 4]); 4] = [
+        (
+            SMALLEST,
+            Status::Ok,
+            [HEAD, b"", b"", b"end turns=0 entries=0\n"],
+        ),
+        (
+            ONE_READ,
+            Status::Ok,
+            [HEAD, FIRST_READ, b"", b"end turns=9 entries=11\n"],
+        ),
+        (
+            SECOND_READ_AND_A_HOLE,
+            Status::Ok,
+            [HEAD, FIRST_READ, SECOND_READ, b"end turns=15 entries=17\n"],
+        ),
+        (
+            A_WRITE_NOT_BUILT,
+            Status::BadScript,
+            [b"bad line=1 cause=unbuilt\n", b"", b"", b""],
+        ),
+    ];
+    for (script, status, pieces) in rows {
+        let mut wanted = Vec::new(rt.alloc());
+        for piece in pieces {
+            wanted.extend_from_slice(piece)?;
+        }
+        let mut source = SureSource::new(script);
+        let mut sink = SureSink::new(rt.alloc(), 4096).ok().ok_or("memory")?;
+        assert_eq!(rt; run_steps(rt.alloc(), &mut source, &mut sink), status);
+        assert_eq!(rt; sink.held(), wanted.as_slice());
+    }
+    Ok(())
+}
+
+#[test]
+fn faults_and_ends(rt: HostRuntime) -> Result<(), Fail> {
+    let alloc = rt.alloc();
+    let mut source = MemorySource::new(alloc, ONE_READ, &[0])
+        .ok()
+        .ok_or("memory")?;
+    let mut sink = MemorySink::new(alloc, 4096, &[]).ok().ok_or("memory")?;
+    assert_eq!(rt; run_steps(alloc, &mut source, &mut sink), Status::ReadFault);
+    assert_eq!(rt; sink.held(), b"".as_slice());
+    let mut source = MemorySource::new(alloc, ONE_READ, &[])
+        .ok()
+        .ok_or("memory")?;
+    let mut sink = MemorySink::new(alloc, 10, &[]).ok().ok_or("memory")?;
+    assert_eq!(rt;
+        run_steps(alloc, &mut source, &mut sink),
+        Status::WriteFault
+    );
+    assert_eq!(rt; sink.held(), b"gmem-histo".as_slice());
+    let long = vec![in alloc; b'#'; 16_777_217]?;
+    let mut source = SureSource::new(&long);
+    let mut sink = SureSink::new(alloc, 4096).ok().ok_or("memory")?;
+    assert_eq!(rt; run_steps(alloc, &mut source, &mut sink), Status::TooLong);
+    assert_eq!(rt; sink.held(), b"".as_slice());
+    Ok(())
+}
+
+#[test]
+fn words_over_std_ends(rt: HostRuntime) -> Result<(), Fail> {
+    let alloc = rt.alloc();
+    for (word, status) in [("steps", Status::Ok), ("step", Status::Usage)] {
+        let words = vec![in alloc; String::from_str(alloc, word)?]?;
+        let mut source = ReaderSource::new(ONE_READ);
+        let mut sink = WriterSink::new(Vec::new(alloc));
+        assert_eq!(rt;
+            run_words(&rt, alloc, &words, &mut source, &mut sink, &OpenGate),
+            status
+        );
+    }
+    Ok(())
+}

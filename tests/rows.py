@@ -1,0 +1,60 @@
+#!/usr/bin/env python3
+"""Runs the worked rows on a program, and the examples.
+
+    rows.py PROGRAM
+
+A row is a folder of tests/rows: `args` (the words), `stdin` or `repeat` (a byte and how often it comes, then an end),
+`status`, and `stdout`. A row with `folder` reads a folder, whose read fails; one with `full` writes to a sink that
+takes nothing. The last line counts the rows. The exit status is 0 where all passed.
+"""
+import os, pathlib, subprocess, sys
+
+ROWS = pathlib.Path(__file__).resolve().parent / 'rows'
+EXAMPLES = ROWS.parent.parent / 'examples'
+
+def first_difference(wanted, came):
+    for number, (x, y) in enumerate(zip(wanted.split(b'\n') + [b'(end)'], came.split(b'\n') + [b'(end)']), 1):
+        if x != y:
+            return f'line {number}: wanted {x!r}, came {y!r}'
+    return 'one ends before the other'
+
+def run(program, words, given, source=None, sink=subprocess.PIPE):
+    feed = {'input': given} if source is None else {'stdin': source}
+    return subprocess.run([program] + words, stdout=sink, timeout=600, **feed)
+
+def row_result(program, row):
+    words = (row / 'args').read_text().split()
+    source = os.open(row, os.O_RDONLY) if (row / 'folder').exists() else None
+    sink = open('/dev/full', 'wb') if (row / 'full').exists() else subprocess.PIPE
+    if (row / 'repeat').exists():
+        byte, count, *end = (row / 'repeat').read_text().split()
+        given = byte.encode() * int(count) + (b'\n' if end else b'')
+    else:
+        given = (row / 'stdin').read_bytes() if (row / 'stdin').exists() else b''
+    done = run(program, words, given, source, sink)
+    wanted = int((row / 'status').read_text())
+    if done.returncode != wanted:
+        return f'status {done.returncode}, not {wanted}'
+    if sink is subprocess.PIPE and done.stdout != (row / 'stdout').read_bytes():
+        return first_difference((row / 'stdout').read_bytes(), done.stdout)
+    return None
+
+def example_result(program, script):
+    done = run(program, ['steps'], script.read_bytes())
+    wanted = script.with_suffix('.history').read_bytes()
+    if done.returncode != 0:
+        return f'status {done.returncode}, not 0'
+    return None if done.stdout == wanted else first_difference(wanted, done.stdout)
+
+def main():
+    program = sys.argv[1]
+    run(program, ['steps'], b'')  # builds it, where it isn't built
+    results = [(row.name, row_result(program, row)) for row in sorted(ROWS.iterdir())]
+    results += [(script.name, example_result(program, script)) for script in sorted(EXAMPLES.glob('*.script'))]
+    failed = [(name, wrong) for name, wrong in results if wrong]
+    for name, wrong in failed:
+        print(f'{name}: {wrong}')
+    print(f'{len(results) - len(failed)} passed, {len(failed)} failed')
+    sys.exit(1 if failed else 0)
+
+main()
