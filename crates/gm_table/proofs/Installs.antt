@@ -1,7 +1,6 @@
 -- What a zap and an install leave.
-use Rattle.std.proofs.Common.{◌≡◌, ℕ, ◌+◌, ◌*◌, ◌/◌, ◌<◌, ◌≤◌, ◌⊎◌, inl, inr, List, [], ◌∷◌, length, refl, ap, sym, ◌∙◌, subst, arith, Bool, true, false, ◌&&◌}
+use Rattle.std.proofs.Common.{◌≡◌, ℕ, ◌+◌, ◌*◌, ◌/◌, ◌<◌, ◌≤◌, inl, inr, List, [], ◌∷◌, length, refl, ap, sym, ◌∙◌, subst, arith, Bool, true, false, ◌&&◌}
 use Rattle.std.specs.Prelude.{None, Some, nat_eq, nat_lt, nat_le, if◌then◌else◌}
-use Rattle.std.specs.declared.option.Option.{Option}
 use Rattle.std.proofs.lemmas.Bool.{ne_eqb, cases_lt}
 use Rattle.std.proofs.lemmas.Bool.Decides.{nat_tests}
 use Rattle.gm_base.specs.Extent.{Extent}
@@ -13,7 +12,7 @@ use Rattle.gm_base.specs.declared.values.Level.TheVariants.{Small, Block}
 use Rattle.gm_radix.specs.Entries.{lookup, put, is_within, without}
 use Rattle.gm_table.specs.Kept.{leaves_of, covering, IsKept}
 use Rattle.gm_table.specs.Leaves.{apart_from, place, extent_of, IsAligned}
-use Rattle.gm_table.proofs.Members.{Among, IsPlaced, pages_some, placed, apart_members, lookup-member, member-lookup, covered_from, covering_some, covering_none, not_both}
+use Rattle.gm_table.proofs.Members.{Among, pages_some, placed, apart_members, lookup-member, member-lookup, covered_from, covering_some, covering_none, not_both}
 
 -- the pages from one on and below another
 abbrev pub span : ℕ → ℕ → Extent

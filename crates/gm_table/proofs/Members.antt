@@ -1,18 +1,17 @@
 -- Leaves that are kept under their first pages: which one is over a page, and which ones meet a span.
-use Rattle.std.proofs.Common.{◌≡◌, ℕ, ◌+◌, ◌*◌, ◌/◌, ◌-◌, ◌<◌, ◌≤◌, ◌⊎◌, inl, inr, List, [], ◌∷◌, ◌++◌, length, refl, ap, sym, ◌∙◌, subst, arith, Bool, true, false, ◌&&◌}
-use Rattle.std.specs.Prelude.{None, Some, nat_eq, nat_lt, nat_le, if◌then◌else◌}
+use Rattle.std.proofs.Common.{◌≡◌, ℕ, ◌+◌, ◌*◌, ◌/◌, ◌<◌, ◌≤◌, ◌⊎◌, inl, inr, List, [], ◌∷◌, refl, ap, sym, ◌∙◌, subst, arith, Bool, true, false}
+use Rattle.std.specs.Prelude.{None, Some, nat_eq, if◌then◌else◌}
 use Rattle.std.specs.declared.option.Option.{Option}
-use Rattle.std.proofs.lemmas.Bool.{lt-ltb, le-ltb, ne_eqb, eq-eqb, cases_lt}
+use Rattle.std.proofs.lemmas.Bool.{ne_eqb, eq-eqb}
 use Rattle.std.proofs.lemmas.Bool.Decides.{nat_tests}
-use Rattle.gm_base.specs.Extent.{Extent}
-use Rattle.gm_base.specs.Leaf.{covers, meets_leaf}
+use Rattle.gm_base.specs.Leaf.{covers}
 use Rattle.gm_base.specs.Values.{pages_of}
 use Rattle.gm_base.specs.declared.leaf.Leaf.{Leaf}
 use Rattle.gm_base.specs.declared.values.Level.{Level}
 use Rattle.gm_base.specs.declared.values.Level.TheVariants.{Small, Block}
-use Rattle.gm_radix.specs.Entries.{lookup, put, is_within, without}
+use Rattle.gm_radix.specs.Entries.{lookup}
 use Rattle.gm_table.specs.Kept.{leaves_of, covering, IsKept}
-use Rattle.gm_table.specs.Leaves.{leaf_over, apart_from, LieApart, IsAligned}
+use Rattle.gm_table.specs.Leaves.{leaf_over, LieApart, IsAligned}
 
 -- an entry is one of the list
 abbrev pub Among : ℕ × Leaf → List (ℕ × Leaf) → Type 0

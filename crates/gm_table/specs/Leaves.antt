@@ -6,8 +6,7 @@ use Rattle.gm_base.specs.Leaf.{covers, meets_leaf}
 use Rattle.gm_base.specs.Values.{pages_of}
 use Rattle.gm_base.specs.declared.leaf.Leaf.{Leaf}
 use Rattle.gm_base.specs.declared.numbers.TheConstants.{BLOCK_PAGES, PAGE_LIMIT}
-use Rattle.gm_base.specs.declared.values.Level.{Level}
-use Rattle.gm_base.specs.declared.values.Level.TheVariants.{Small, Block}
+use Rattle.gm_base.specs.declared.values.Level.TheVariants.{Block}
 use Rattle.gm_base.specs.declared.values.Place.{Place}
 use Rattle.gm_base.specs.declared.values.Place.TheVariants.{User, Frame}
 

@@ -1,6 +1,4 @@
-use Rattle.std.proofs.Common.{◌≡◌, sym, ◌∙◌, ap, ℕ, ◌*◌, ◌/◌}
-use Rattle.gm_radix.specs.Entries.{lookup}
-use Rattle.gm_table.specs.Kept.{covering}
+use Rattle.std.proofs.Common.{sym, ◌∙◌}
 use Rattle.gm_table.proofs.Installs.{without-block, without-plain}
 use Rattle.gm_table.proofs.table.first_met.Goals as goal
 

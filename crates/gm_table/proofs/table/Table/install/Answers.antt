@@ -1,9 +1,8 @@
-use Rattle.std.proofs.Common.{◌≡◌, ◌+◌, ap, sym, ◌∙◌, arith, List}
+use Rattle.std.proofs.Common.{◌≡◌, ap, ◌∙◌, arith, List}
 use Rattle.gm_base.specs.declared.leaf.Leaf.{Leaf}
-use Rattle.gm_radix.specs.Entries.{without}
 use Rattle.gm_table.specs.Kept.{leaves_of}
 use Rattle.gm_table.specs.Leaves.{Mapped, apart_from, place, extent_of, installed}
-use Rattle.gm_table.proofs.Installs.{NoneMeet, IsKept-without, IsPut, is_put, none_meet}
+use Rattle.gm_table.proofs.Installs.{IsKept-without, IsPut, is_put, none_meet}
 use Rattle.gm_table.proofs.table.Table.install.Goals as goal
 
 -- what the removal leaves are the leaves apart from the new one

@@ -1,4 +1,4 @@
-use Rattle.std.proofs.Common.{◌≡◌, sym, ◌∙◌, ap, ℕ}
+use Rattle.std.proofs.Common.{sym, ◌∙◌, ap, ℕ}
 use Rattle.gm_table.specs.Kept.{leaves_of}
 use Rattle.gm_table.specs.Leaves.{Mapped, leaf_over}
 use Rattle.gm_table.proofs.Members.{over_found, over_last, lie_apart}

@@ -1,4 +1,4 @@
-use Rattle.std.proofs.Common.{◌≡◌, ap, length, arith}
+use Rattle.std.proofs.Common.{ap, length, arith}
 use Rattle.gm_table.specs.Leaves.{Mapped}
 use Rattle.gm_table.proofs.Installs.{IsKept-without, length-leaves_of}
 use Rattle.gm_table.proofs.table.Table.zap.Goals as goal
