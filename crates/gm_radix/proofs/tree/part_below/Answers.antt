@@ -1,6 +1,4 @@
-use Rattle.std.proofs.Common.{◌≡◌, ◌<◌, ◌≤◌, ◌++◌, ◌∷◌, [], List, ℕ, length, subst, ap, sym, ◌∙◌, arith}
-use Rattle.gm_radix.specs.Entries.{Rises, put}
-use Rattle.gm_radix.specs.Nodes.{entries, IsFork}
+use Rattle.std.proofs.Common.{arith}
 use Rattle.gm_radix.proofs.Parted.{fork_below, put_before}
 use Rattle.gm_radix.proofs.tree.part_below.Goals as goal
 

@@ -1,4 +1,3 @@
-use Rattle.std.proofs.Common.{◌≡◌}
 use Rattle.gm_radix.proofs.Parted.{gap_from-first}
 use Rattle.gm_radix.proofs.radix.Radix.first_gap.Goals as goal
 

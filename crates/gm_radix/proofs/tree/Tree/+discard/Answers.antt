@@ -1,6 +1,5 @@
-use Rattle.std.proofs.Common.{◌≡◌, ◌++◌, sym, ap, ◌∙◌, inl, inr, arith, length-append}
+use Rattle.std.proofs.Common.{◌∙◌, inl, inr, arith}
 use Rattle.gm_radix.proofs.Parted.{at_Two, parted-apart, parted_fits, parted-without, without-append}
-use Rattle.gm_radix.specs.Entries.{without}
 use Rattle.gm_radix.proofs.tree.Tree.+discard.Goals as goal
 
 pub returns-then-end-lo-clause-rest : goal.returns-then-end-lo-clause-rest

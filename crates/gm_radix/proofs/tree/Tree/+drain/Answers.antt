@@ -1,6 +1,5 @@
-use Rattle.std.proofs.Common.{rules, ◌≡◌, ◌++◌, ◌+◌, ◌≤◌, sym, ap, ◌∙◌, inl, inr, arith, length, length-append, append-nil, vec_len, vec_capacity, List, ℕ, []}
+use Rattle.std.proofs.Common.{sym, ap, ◌∙◌, inl, inr, arith, length, length-append, append-nil, List}
 use Rattle.gm_radix.proofs.Parted.{at_Two, parted-apart, parted_none, parted-without, without-append, within-append_after, length-within-append}
-use Rattle.gm_radix.specs.Entries.{without, within}
 use Rattle.gm_radix.proofs.tree.Tree.+drain.Goals as goal
 
 pub returns-then-end-lo-clause-rest : goal.returns-then-end-lo-clause-rest

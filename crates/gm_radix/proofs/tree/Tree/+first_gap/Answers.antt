@@ -1,5 +1,4 @@
-use Rattle.std.proofs.Common.{◌≡◌, sym, ap, ◌∙◌, inl, inr, ℕ}
-use Rattle.gm_radix.specs.Entries.{gap_from}
+use Rattle.std.proofs.Common.{inl, inr}
 use Rattle.gm_radix.proofs.Parted.{at_Two, gap_from-append, gap_from-outside}
 use Rattle.gm_radix.proofs.tree.Tree.+first_gap.Goals as goal
 

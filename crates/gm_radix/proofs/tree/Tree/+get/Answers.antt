@@ -1,4 +1,3 @@
-use Rattle.std.proofs.Common.{◌≡◌}
 use Rattle.gm_radix.proofs.Parted.{at_Two, lookup-left, lookup-right}
 use Rattle.gm_radix.proofs.tree.Tree.+get.Goals as goal
 

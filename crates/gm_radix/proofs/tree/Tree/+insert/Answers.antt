@@ -1,5 +1,3 @@
-use Rattle.std.proofs.Common.{◌≡◌, ◌++◌, sym, ap, ◌∙◌, arith}
-use Rattle.gm_radix.specs.Entries.{put}
 use Rattle.gm_radix.proofs.Parted.{at_Two, not_apart, fork_rises, fork_order, fork_put_left, fork_put_right, put-left, put-right}
 use Rattle.gm_radix.proofs.tree.Tree.+insert.Goals as goal
 

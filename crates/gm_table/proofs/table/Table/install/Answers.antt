@@ -1,0 +1,22 @@
+use Rattle.std.proofs.Common.{◌≡◌, ap, ◌∙◌, arith, List}
+use Rattle.gm_base.specs.declared.leaf.Leaf.{Leaf}
+use Rattle.gm_table.specs.Kept.{leaves_of}
+use Rattle.gm_table.specs.Leaves.{Mapped, apart_from, place, extent_of, installed}
+use Rattle.gm_table.proofs.Installs.{IsKept-without, IsPut, is_put, none_meet}
+use Rattle.gm_table.proofs.table.Table.install.Goals as goal
+
+-- what the removal leaves are the leaves apart from the new one
+apart : (c : goal.After-insert) → leaves_of c.discard.new.self.entries ≡ apart_from (extent_of c.args.leaf) (leaves_of c.self.inside.leaves.entries)
+apart c =
+    rw (c.discard.ensures.entries, c.pages.ensures) (c.first_met-from.ensures _)
+
+put_there : (c : goal.After-insert) → IsPut 0 c.args.leaf c.discard.new.self.entries
+put_there c =
+    is_put 0 c.args.leaf c.discard.new.self.entries (omega arith) c.requires.leaf.aligned (rw c.discard.ensures.entries (IsKept-without 0 c.first_met-from.result _ _ c.self.invariant)) (rw (apart c) (none_meet (extent_of c.args.leaf) _))
+
+pub invariant_of-self : goal.invariant_of-self
+invariant_of-self c = rw c.insert.ensures.entries (put_there c).kept
+
+pub returns-clause-leaves : goal.returns-clause-leaves
+returns-clause-leaves c =
+    rw c.insert.ensures.entries ((put_there c).leaves ∙ (ap (λ (ls : List Leaf). place c.args.leaf ls) (apart c) ∙ ap (λ (m : Mapped). installed c.args.leaf m.leaves) c.self.view_is))
