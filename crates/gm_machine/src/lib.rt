@@ -16,3 +16,6 @@ mod vcpu_turns;
 
 pub use machine::Machine;
 pub use outcome::{Blocker, How, Outcome};
+
+#[cfg(test)]
+mod tests;

@@ -14,3 +14,6 @@ pub use error::{Cause, ScriptError};
 pub use gm_base::{Command, Turn};
 pub use lists::CommandList;
 pub use script::{Script, read_script};
+
+#[cfg(test)]
+mod tests;
