@@ -37,3 +37,4 @@ pub mod MoveAndDeletionRuled
 pub mod PopulationAndCloseRuled
 pub mod OneReadPlays
 pub mod FlushPendingPlays
+pub mod Frames

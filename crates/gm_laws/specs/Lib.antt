@@ -13,5 +13,6 @@ pub mod Readings
 pub mod Rows
 pub mod Ruled
 pub mod Stands
+pub mod TouchFrames
 pub mod TouchesNow
 pub mod WrongBodies

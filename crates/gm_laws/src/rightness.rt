@@ -13,6 +13,7 @@ ghost use Rattle.gm_laws.specs.LivesEverywhere.{LivesEverywhere};
 ghost use Rattle.gm_laws.specs.Readings.{how_many, is_begin, is_end};
 ghost use Rattle.gm_laws.specs.Ruled.{Ruled};
 ghost use Rattle.gm_laws.specs.Stands.{Stands};
+ghost use Rattle.gm_laws.specs.TouchFrames.{TouchFrames};
 ghost use Rattle.gm_laws.specs.TouchesNow.{TouchesNow};
 
 /// A history that follows the tables is right.
@@ -59,4 +60,9 @@ pub fn frames_differ_everywhere()
 pub fn invariant_holds()
     ensures now { (o : Orders) (past : List Entry) → Right o past → Invariant past }
     ensures before { (o : Orders) (e : Entry) (front past : List Entry) → Right o past → Stands e front past → Invariant front }
+{}
+
+/// A touch of a folio names the frame that the folio was added with, so its serial alone tells it.
+pub fn touches_name_their_frames()
+    ensures { (o : Orders) (past : List Entry) → Right o past → Each (λ e p. TouchFrames e.what e.actor p) past }
 {}
