@@ -7,7 +7,7 @@ use Rattle.gm_base.specs.declared.values.Actor.{Actor}
 use Rattle.gm_base.specs.declared.values.Actor.TheVariants.{Caller, Vcpu}
 use Rattle.gm_base.specs.declared.values.Folio.{Folio}
 use Rattle.gm_base.specs.declared.values.Setup.{Setup}
-use Rattle.gm_flat.specs.Calls.{Bracketed, PagePlan, Paged, Plan, Reads, Refused, Same, Short, plan}
+use Rattle.gm_flat.specs.Calls.{Bracketed, PagePlan, Paged, Plan, Reads, Refused, Same, Short}
 use Rattle.gm_flat.specs.Effects.{Addition, add, apply, get_addition, is_cut, shut_files, shut_slots, slot_fits, with_run, without, without_file}
 use Rattle.gm_flat.specs.FlatState.{Flat, Triple, cached, is_free, is_live, is_triple, was_made}
 use Rattle.gm_flat.specs.Histories.{Call, Fault, Faulting, Gotten, NoFault, Seen, call, fault, is_vcpu, with_get, with_look, with_sample}
@@ -169,7 +169,7 @@ cached_cut K i F lo hi [] fo h = h
 cached_cut K i F lo hi (x ∷ ts) fo h =
     cut_left (is_cut F lo hi x) (is_triple K i x) K i F lo hi x ts fo refl refl (cached_cut K i F lo hi ts fo) (λ a b. cut_none K i F lo hi ts fo (cut_same K i F lo hi x.file x.index a b)) h
 
-shut_none : (K i F : ℕ) (ts : List Triple) (fo : Folio) → eqb K F ≡ true → cached K i (without_file F ts) ≡ Some fo → ⊥
+pub shut_none : (K i F : ℕ) (ts : List Triple) (fo : Folio) → eqb K F ≡ true → cached K i (without_file F ts) ≡ Some fo → ⊥
 shut_none K i F [] fo c h = none_is fo h
 shut_none K i F (x ∷ ts) fo c h = go (eqb x.file F) (is_triple K i x) refl refl h (shut_none K i F ts fo c)
   where

@@ -27,7 +27,7 @@ use Rattle.gm_laws.proofs.Fates.{named_folio}
 use Rattle.gm_laws.proofs.Flats.{cond_P, over}
 use Rattle.gm_laws.proofs.Folios.{LivesOk, cached_cut, cached_shut, effect_keeps, lives}
 use Rattle.gm_laws.proofs.Kit.{by, cond_is, none_is, some_same}
-use Rattle.gm_laws.proofs.RightIsRuled.{follows, ruled}
+use Rattle.gm_laws.proofs.RightIsRuled.{ruled}
 use Rattle.gm_laws.proofs.RuledIsRight.{each}
 use Rattle.gm_laws.proofs.Touches.{good, touched}
 use Rattle.gm_laws.specs.May.{May}
@@ -83,7 +83,7 @@ add_frames_kept (Some d) f e c l h = λ F i fo q. elim (run_folio d.pages F i d.
 ]
 
 -- what an effect leaves cached was cached
-effect_cached : (e : Effect) (f : Flat) (K i : ℕ) (fo : Folio) → cached K i (apply e f).cache ≡ Some fo → cached K i f.cache ≡ Some fo
+pub effect_cached : (e : Effect) (f : Flat) (K i : ℕ) (fo : Folio) → cached K i (apply e f).cache ≡ Some fo → cached K i f.cache ≡ Some fo
 effect_cached (Cut F lo hi) f K i fo = λ h. cached_cut K i F lo hi f.cache fo h
 effect_cached (Shut F) f K i fo = cond_P (λ (x : Flat). cached K i x.cache ≡ Some fo → cached K i f.cache ≡ Some fo) (was_made F f.files) (record f { slots = shut_slots F f.slots; files = shut_files F f.files; cache = without_file F f.cache }) f (λ h. cached_shut K i F f.cache fo h) (λ h. h)
 effect_cached (Slot id base pages user flags file index) f K i fo =

@@ -38,3 +38,4 @@ pub mod PopulationAndCloseRuled
 pub mod OneReadPlays
 pub mod FlushPendingPlays
 pub mod Frames
+pub mod SlotsKeep

@@ -4,6 +4,7 @@ ghost use Rattle.std.specs.Prelude.{ℕ, ◌≡◌, ◌+◌, List, false};
 ghost use Rattle.gm_base.specs.Scripts.{Orders};
 ghost use Rattle.gm_flat.specs.Histories.{same_turn};
 ghost use Rattle.gm_flat.specs.Invalidation.{count};
+ghost use Rattle.gm_flat.specs.Replay.{flat};
 ghost use Rattle.gm_flat.specs.RightHistory.{Each, Right};
 ghost use Rattle.gm_flat.specs.Words.{folio_word};
 ghost use Rattle.gm_flat.specs.declared.entry.Entry.{Entry};
@@ -12,6 +13,7 @@ ghost use Rattle.gm_laws.specs.Invariant.{Invariant};
 ghost use Rattle.gm_laws.specs.LivesEverywhere.{LivesEverywhere};
 ghost use Rattle.gm_laws.specs.Readings.{how_many, is_begin, is_end};
 ghost use Rattle.gm_laws.specs.Ruled.{Ruled};
+ghost use Rattle.gm_laws.specs.SlotsStand.{SlotsStand};
 ghost use Rattle.gm_laws.specs.Stands.{Stands};
 ghost use Rattle.gm_laws.specs.TouchFrames.{TouchFrames};
 ghost use Rattle.gm_laws.specs.TouchesNow.{TouchesNow};
@@ -65,4 +67,11 @@ pub fn invariant_holds()
 /// A touch of a folio names the frame that the folio was added with, so its serial alone tells it.
 pub fn touches_name_their_frames()
     ensures { (o : Orders) (past : List Entry) → Right o past → Each (λ e p. TouchFrames e.what e.actor p) past }
+{}
+
+/// At every position of a right history: slots have different ids and don't meet; slots of one file are bound apart; the file
+/// of a slot is in use; and what is cached is cached in a file that is in use.
+pub fn slots_stand_apart()
+    ensures now { (o : Orders) (past : List Entry) → Right o past → SlotsStand (flat past) }
+    ensures before { (o : Orders) (e : Entry) (front past : List Entry) → Right o past → Stands e front past → SlotsStand (flat front) }
 {}
