@@ -39,3 +39,4 @@ pub mod OneReadPlays
 pub mod FlushPendingPlays
 pub mod Frames
 pub mod SlotsKeep
+pub mod TurnsKeep

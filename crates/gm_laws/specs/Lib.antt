@@ -16,4 +16,5 @@ pub mod SlotsStand
 pub mod Stands
 pub mod TouchFrames
 pub mod TouchesNow
+pub mod Turns
 pub mod WrongBodies

@@ -7,7 +7,9 @@ ghost use Rattle.gm_flat.specs.Invalidation.{count};
 ghost use Rattle.gm_flat.specs.Replay.{flat};
 ghost use Rattle.gm_flat.specs.RightHistory.{Each, Right};
 ghost use Rattle.gm_flat.specs.Words.{folio_word};
+ghost use Rattle.gm_base.specs.declared.values.Actor.{Actor};
 ghost use Rattle.gm_flat.specs.declared.entry.Entry.{Entry};
+ghost use Rattle.gm_flat.specs.declared.entry.What.{What};
 ghost use Rattle.gm_laws.specs.Contents.{added_word, last_write, or_else};
 ghost use Rattle.gm_laws.specs.Invariant.{Invariant};
 ghost use Rattle.gm_laws.specs.LivesEverywhere.{LivesEverywhere};
@@ -17,10 +19,16 @@ ghost use Rattle.gm_laws.specs.SlotsStand.{SlotsStand};
 ghost use Rattle.gm_laws.specs.Stands.{Stands};
 ghost use Rattle.gm_laws.specs.TouchFrames.{TouchFrames};
 ghost use Rattle.gm_laws.specs.TouchesNow.{TouchesNow};
+ghost use Rattle.gm_laws.specs.Turns.{IsTurn, onto};
 
 /// A history that follows the tables is right.
 pub fn ruled_is_right()
     ensures { (o : Orders) (past : List Entry) → Ruled o past → Right o past }
+{}
+
+/// A whole turn by the tables keeps a history that follows them.
+pub fn turns_keep_ruled()
+    ensures { (o : Orders) (turn : ℕ) (actor : Actor) (ws : List What) (past : List Entry) → IsTurn o turn actor ws past → Ruled o past → Ruled o (onto turn actor ws past) }
 {}
 
 /// A right history follows the tables.
