@@ -81,7 +81,7 @@ fresh_run-made fo fresh F i files d e =
       | inr y ↦ absurd (none_is d y.1)
     ]
 
-get_made : (fo : Folio) (fresh F i : ℕ) (files : List FileState) (d : Addition) → get_addition (InFolio fo) fresh (Some F) (Some i) files ≡ Some d → Made fo fresh F i d
+pub get_made : (fo : Folio) (fresh F i : ℕ) (files : List FileState) (d : Addition) → get_addition (InFolio fo) fresh (Some F) (Some i) files ≡ Some d → Made fo fresh F i d
 get_made fo fresh F i files d e =
     elim (cond_is (eqb fresh 1 || eqb fresh 512) (fresh_run fo fresh F i files) None (Some d) e) [
       | inl y ↦ fresh_run-made fo fresh F i files d y.1

@@ -31,6 +31,7 @@ use Rattle.gm_laws.proofs.Kit.{by, cond_is, none_is, some_same}
 use Rattle.gm_laws.proofs.Lives.{frame_free, frame_with, free_none, live_stays, live_with}
 use Rattle.gm_laws.specs.May.{May}
 use Rattle.gm_laws.specs.Ruled.{Follows}
+use Rattle.gm_laws.specs.WrongBodies.{at}
 
 pub record LivesOk (past : List Entry) : Type 0 where
   pub cached_live : (s : ℕ) → IsCached s (flat past) → is_live s (flat past).folios ≡ true
@@ -163,12 +164,12 @@ cut_none K i F lo hi (x ∷ ts) fo c h = go (is_cut F lo hi x) (is_triple K i x)
     go false true a b h ih = kept K i F lo hi x.file x.index c a b
     go false false a b h ih = ih (subst (λ (z : Bool). cond z (Some x.folio) (cached K i (without F lo hi ts)) ≡ Some fo) b h)
 
-cached_cut : (K i F lo hi : ℕ) (ts : List Triple) (fo : Folio) → cached K i (without F lo hi ts) ≡ Some fo → cached K i ts ≡ Some fo
+pub cached_cut : (K i F lo hi : ℕ) (ts : List Triple) (fo : Folio) → cached K i (without F lo hi ts) ≡ Some fo → cached K i ts ≡ Some fo
 cached_cut K i F lo hi [] fo h = h
 cached_cut K i F lo hi (x ∷ ts) fo h =
     cut_left (is_cut F lo hi x) (is_triple K i x) K i F lo hi x ts fo refl refl (cached_cut K i F lo hi ts fo) (λ a b. cut_none K i F lo hi ts fo (cut_same K i F lo hi x.file x.index a b)) h
 
-shut_none : (K i F : ℕ) (ts : List Triple) (fo : Folio) → eqb K F ≡ true → cached K i (without_file F ts) ≡ Some fo → ⊥
+pub shut_none : (K i F : ℕ) (ts : List Triple) (fo : Folio) → eqb K F ≡ true → cached K i (without_file F ts) ≡ Some fo → ⊥
 shut_none K i F [] fo c h = none_is fo h
 shut_none K i F (x ∷ ts) fo c h = go (eqb x.file F) (is_triple K i x) refl refl h (shut_none K i F ts fo c)
   where
@@ -180,7 +181,7 @@ shut_none K i F (x ∷ ts) fo c h = go (eqb x.file F) (is_triple K i x) refl ref
     go false true a b h ih = kept K i F x.file x.index c a b
     go false false a b h ih = ih (subst (λ (z : Bool). cond z (Some x.folio) (cached K i (without_file F ts)) ≡ Some fo) b h)
 
-cached_shut : (K i F : ℕ) (ts : List Triple) (fo : Folio) → cached K i (without_file F ts) ≡ Some fo → cached K i ts ≡ Some fo
+pub cached_shut : (K i F : ℕ) (ts : List Triple) (fo : Folio) → cached K i (without_file F ts) ≡ Some fo → cached K i ts ≡ Some fo
 cached_shut K i F [] fo h = h
 cached_shut K i F (x ∷ ts) fo h = go (eqb x.file F) (is_triple K i x) refl refl h (cached_shut K i F ts fo)
   where

@@ -1,5 +1,5 @@
 -- Slots have different ids, so a slot is found again by its id.
-use Rattle.std.proofs.Common.{Bool, List, None, Option, Some, [], ap, arith, cond, eqb, eqb-true, false, refl, subst, sym, true, ℕ, ◌∙◌, ◌∷◌, ◌≡◌, ◌⊎◌}
+use Rattle.std.proofs.Common.{Bool, List, None, Option, Some, [], ap, arith, cond, eqb, eqb-true, false, inl, inr, refl, subst, sym, true, ℕ, ◌∙◌, ◌∷◌, ◌≡◌, ◌⊎◌}
 use Rattle.std.proofs.lemmas.Bool.Decides.{nat_tests}
 use Rattle.gm_flat.specs.Effects.{dropped, moved, shut_slot, shut_slots}
 use Rattle.gm_flat.specs.Replay.{flat_at, slot_by}
@@ -8,7 +8,7 @@ use Rattle.gm_flat.specs.Slots.{lies_over}
 use Rattle.gm_flat.specs.declared.entry.Entry.{Entry}
 use Rattle.gm_flat.specs.declared.views.SlotView.{SlotView}
 use Rattle.gm_laws.proofs.Flats.{over, with_id}
-use Rattle.gm_laws.proofs.Kit.{none_is, some_same}
+use Rattle.gm_laws.proofs.Kit.{cond_is, none_is, some_same}
 
 abbrev pub MemSlot : SlotView → List SlotView → Type 0
 MemSlot x [] = ⊥
@@ -92,3 +92,11 @@ apart_shut F (r ∷ rs) h = (id_shut r.id F rs h.0, apart_shut F rs h.1)
 -- each state of the past has such slots
 abbrev pub IdsAt : List Entry → Type 0
 IdsAt past = (p : ℕ) → IdsApart (flat_at p past).slots
+
+pub over_mem : (g : ℕ) (r : SlotView) (rs : List SlotView) → over g rs ≡ Some r → MemSlot r rs × (lies_over r g ≡ true)
+over_mem g r [] e = absurd (none_is r e)
+over_mem g r (x ∷ xs) e =
+    elim (cond_is (lies_over x g) (Some x) (over g xs) (Some r) e) [
+      | inl y ↦ let s : x ≡ r = some_same x r y.1 in (inl (sym s), ap (λ (z : SlotView). lies_over z g) (sym s) ∙ y.0)
+      | inr y ↦ let z = over_mem g r xs y.1 in (inr z.0, z.1)
+    ]

@@ -37,3 +37,6 @@ pub mod MoveAndDeletionRuled
 pub mod PopulationAndCloseRuled
 pub mod OneReadPlays
 pub mod FlushPendingPlays
+pub mod Frames
+pub mod SlotsKeep
+pub mod TurnsKeep

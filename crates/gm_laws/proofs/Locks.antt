@@ -6,7 +6,7 @@ use Rattle.gm_base.specs.Extent.{Extent}
 use Rattle.gm_base.specs.declared.calls.Ioctl.{Ioctl}
 use Rattle.gm_base.specs.declared.numbers.TheConstants.{KVM_MEM_GUEST_MEMFD}
 use Rattle.gm_base.specs.declared.values.Setup.{Setup}
-use Rattle.gm_flat.specs.Calls.{Bracketed, Paged, Plan, Reads, Refused, Same, Short, has_memfd, plan}
+use Rattle.gm_flat.specs.Calls.{Bracketed, Paged, Plan, Reads, Refused, Same, Short, has_memfd, meets_bound, meets_slot, plan}
 use Rattle.gm_flat.specs.Effects.{apply, dropped, moved, shut_files, shut_slot, shut_slots, slot_fits, without_file}
 use Rattle.gm_flat.specs.FlatState.{FileState, Flat, has_flag, in_use, was_made}
 use Rattle.gm_flat.specs.Histories.{Bracket, Call, bracket, call}
@@ -140,15 +140,15 @@ MemRow-unbound F r (x ∷ xs) m = go (of_file F x.file) m (MemRow-unbound F r xs
 
 -- a Change, by its call's locks: i is the call, h the state at its Judge, f the state before the Change
 abbrev pub Facts : Effect → Ioctl → Flat → Flat → Type 0
-Facts (Slot id base pages user flags file index) i h f = (takes_slots i ≡ true) × ((F : ℕ) → of_file F file ≡ true → (takes (FileLock F) i h ≡ true) × (in_use F f.files ≡ true)) × IsFlagged file flags × (with_id id f.slots ≡ None)
+Facts (Slot id base pages user flags file index) i h f = (takes_slots i ≡ true) × ((F : ℕ) → of_file F file ≡ true → (takes (FileLock F) i h ≡ true) × (in_use F f.files ≡ true)) × IsFlagged file flags × (with_id id f.slots ≡ None) × (meets_slot base pages f.slots ≡ false) × ((F : ℕ) → of_file F file ≡ true → meets_bound F index pages f.slots ≡ false)
 Facts (NoSlot id) i h f = (takes_slots i ≡ true) × ((F : ℕ) → of_file F (file_of (with_id id f.slots)) ≡ true → takes (FileLock F) i h ≡ true)
-Facts (Move id base) i h f = (takes_slots i ≡ true) × ((F : ℕ) → of_file F (file_of (with_id id f.slots)) ≡ false)
+Facts (Move id base) i h f = (takes_slots i ≡ true) × ((F : ℕ) → of_file F (file_of (with_id id f.slots)) ≡ false) × ((s : SlotView) → with_id id f.slots ≡ Some s → meets_slot base s.pages (dropped id f.slots) ≡ false)
 Facts (Shut F) i h f = (takes_slots i ≡ true) × (takes (FileLock F) i h ≡ true)
 Facts (Cut F lo hi) i h f = takes (FileLock F) i h ≡ true
 Facts _ i h f = Unit {0}
 
 facts_short : (e : Effect) (i : Ioctl) (n : ℕ) (h : Flat) → Fits i h (Short e n) → Facts e i h h
-facts_short (Slot id base pages user flags file index) i n h x = (x.0, (λ F y. let z = x.2 F y in (and_from (takes_file F i h) (in_use F h.files) z.0 z.1, z.1)), x.3, x.4)
+facts_short (Slot id base pages user flags file index) i n h x = (x.0, (λ F y. let z = x.2 F y in (and_from (takes_file F i h) (in_use F h.files) z.0 z.1, z.1)), x.3, x.4, x.5, x.6)
 facts_short (File file pages block) i n h x = tt
 facts_short (Word page word value) i n h x = tt
 facts_short (NoSlot id) i n h x = absurd x
@@ -185,7 +185,11 @@ facts_bracket (NoSlot id) i h f spans same files x = (
       let z : of_file F (file_of (with_id id h.slots)) ≡ true = sym (ap (λ (rs : List SlotView). of_file F (file_of (with_id id rs))) (same x.0)) ∙ y in
       and_from (takes_file F i h) (in_use F h.files) (x.2 F z) (row_in_use F (with_id id h.slots) h files (λ r e. with_id-mem id r h.slots e) z),
 )
-facts_bracket (Move id base) i h f spans same files x = (x.0, λ F. ap (λ (rs : List SlotView). of_file F (file_of (with_id id rs))) (same x.0) ∙ no_memfd F (with_id id h.slots) h files (λ r e. with_id-mem id r h.slots e) x.2)
+facts_bracket (Move id base) i h f spans same files x = (
+  x.0,
+  (λ F. ap (λ (rs : List SlotView). of_file F (file_of (with_id id rs))) (same x.0) ∙ no_memfd F (with_id id h.slots) h files (λ r e. with_id-mem id r h.slots e) x.2),
+  λ s e. ap (λ (rs : List SlotView). meets_slot base s.pages (dropped id rs)) (same x.0) ∙ x.3 s (sym (ap (with_id id) (same x.0)) ∙ e),
+)
 facts_bracket (Shut F) i h f spans same files x = (x.0, and_from (takes_file F i h) (in_use F h.files) x.1 x.2)
 facts_bracket (Cut F lo hi) i h f spans same files x = and_from (takes_file F i h) (in_use F h.files) x.0 x.1
 facts_bracket (Attr span kind) i h f spans same files x = tt
@@ -270,7 +274,7 @@ MemSlot-shut : (K : ℕ) (r : SlotView) (rs : List SlotView) → MemSlot r (shut
 MemSlot-shut K r [] m = absurd m
 MemSlot-shut K r (x ∷ xs) m = elim m [ inl y ↦ (x, inl refl, y) | inr y ↦ let z = MemSlot-shut K r xs y in (z.0, inr z.1, z.2) ]
 
-still_file : (F K : ℕ) (o : Option ℕ) → of_file F (cond (of_file K o) None o) ≡ true → (of_file F o ≡ true) × (K ≡ F → ⊥)
+pub still_file : (F K : ℕ) (o : Option ℕ) → of_file F (cond (of_file K o) None o) ≡ true → (of_file F o ≡ true) × (K ≡ F → ⊥)
 still_file F K None e = absurd (both_ways false refl e)
 still_file F K (Some k) e = go (eqb k K) refl e
   where
@@ -278,7 +282,7 @@ still_file F K (Some k) e = go (eqb k K) refl e
     go true h e = absurd (both_ways false refl e)
     go false h e = (e, λ s. eqb-false k K h (eqb-true k F e ∙ sym s))
 
-in_use-shut : (F K : ℕ) (rs : List FileState) → (K ≡ F → ⊥) → in_use F (shut_files K rs) ≡ in_use F rs
+pub in_use-shut : (F K : ℕ) (rs : List FileState) → (K ≡ F → ⊥) → in_use F (shut_files K rs) ≡ in_use F rs
 in_use-shut F K [] ne = refl
 in_use-shut F K (r ∷ rs) ne = go (eqb r.number K) refl (in_use-shut F K rs ne)
   where

@@ -46,20 +46,20 @@ pub can_change : (s : Setup) (e : Effect) (past : List Entry) (x : Option Call) 
 can_change s e past None b m = absurd m.0
 can_change s e past (Some x) b m = (m.0.0, change_in s e past x b (plan_of s x past) refl m.0.1 m.1)
 
-abbrev is_judge : What → Bool
+abbrev pub is_judge : What → Bool
 is_judge (Judge i) = true
 is_judge _ = false
 
 -- where a call in progress comes from
-abbrev NotOwn : What → Actor → ℕ → Type 0
+abbrev pub NotOwn : What → Actor → ℕ → Type 0
 NotOwn (Change e) (Caller d) c = d ≡ c → ⊥
 NotOwn _ a c = Unit {0}
 
-abbrev NewCall : What → Actor → ℕ → Call → List Entry → Type 0
+abbrev pub NewCall : What → Actor → ℕ → Call → List Entry → Type 0
 NewCall (Judge i) (Caller d) c x past = (d ≡ c) × (x.judged ≡ length past) × (x.ioctl ≡ i)
 NewCall _ a c x past = ⊥
 
-abbrev OldCall : What → Actor → ℕ → Call → List Entry → Type 0
+abbrev pub OldCall : What → Actor → ℕ → Call → List Entry → Type 0
 OldCall w a c x past = (y : Call) × (call c past ≡ Some y) × (y.judged ≡ x.judged) × (y.ioctl ≡ x.ioctl) × (x.made ≡ false → (y.made ≡ false) × NotOwn w a c)
 
 made_is : (d c : ℕ) (x : Call) (o : Option Call) → cond (eqb d c) (with_change o) o ≡ Some x → (y : Call) × (o ≡ Some y) × (y.judged ≡ x.judged) × (y.ioctl ≡ x.ioctl) × (x.made ≡ false → (y.made ≡ false) × (d ≡ c → ⊥))
@@ -85,7 +85,7 @@ paged_is d c x (Some y) e =
 old_same : (w : What) (a : Actor) (c : ℕ) (x : Call) (past : List Entry) → NotOwn w a c → call c past ≡ Some x → OldCall w a c x past
 old_same w a c x past n e = (x, e, refl, refl, λ m. (m, n))
 
-inverted : (t : ℕ) (w : What) (a : Actor) (past : List Entry) (c : ℕ) (x : Call) → call c (by t a w ∷ past) ≡ Some x → NewCall w a c x past ⊎ OldCall w a c x past
+pub inverted : (t : ℕ) (w : What) (a : Actor) (past : List Entry) (c : ℕ) (x : Call) → call c (by t a w ∷ past) ≡ Some x → NewCall w a c x past ⊎ OldCall w a c x past
 inverted t (Judge i) (Caller d) past c x e =
     elim (cond_is (eqb d c) (Some (record { judged = length past; ioctl = i; made = false; pages = 0 })) (call c past) (Some x) e) [
       | inl y ↦ let s : record { judged = length past; ioctl = i; made = false; pages = 0 } ≡ x = some_same _ x y.1 in
@@ -106,18 +106,18 @@ inverted t (Answer r) (Vcpu v) past c x e = inr (old_same (Answer r) (Vcpu v) c 
 inverted t w a past c x e = inr (old_same w a c x past tt e)
 
 -- the state at a Judge stays
-then_same : (t : ℕ) (w : What) (a : Actor) (past : List Entry) (x y : Call) → y.judged < length past → y.judged ≡ x.judged → flat_at x.judged (by t a w ∷ past) ≡ flat_at y.judged past
+pub then_same : (t : ℕ) (w : What) (a : Actor) (past : List Entry) (x y : Call) → y.judged < length past → y.judged ≡ x.judged → flat_at x.judged (by t a w ∷ past) ≡ flat_at y.judged past
 then_same t w a past x y lt e =
     ap (λ (p : ℕ). flat_at p (by t a w ∷ past)) (sym e) ∙ flat_at_keep y.judged (by t a w) past (omega arith)
 
-takes_same : (t : ℕ) (w : What) (a : Actor) (past : List Entry) (x y : Call) (lock : Lock) → y.judged < length past → y.judged ≡ x.judged → y.ioctl ≡ x.ioctl → takes lock x.ioctl (flat_at x.judged (by t a w ∷ past)) ≡ takes lock y.ioctl (flat_at y.judged past)
+pub takes_same : (t : ℕ) (w : What) (a : Actor) (past : List Entry) (x y : Call) (lock : Lock) → y.judged < length past → y.judged ≡ x.judged → y.ioctl ≡ x.ioctl → takes lock x.ioctl (flat_at x.judged (by t a w ∷ past)) ≡ takes lock y.ioctl (flat_at y.judged past)
 takes_same t w a past x y lock lt e f =
     ap (λ (s : Flat). takes lock x.ioctl s) (then_same t w a past x y lt e) ∙ ap (λ (i : Ioctl). takes lock i (flat_at y.judged past)) (sym f)
 
-new_then : (t : ℕ) (w : What) (a : Actor) (past : List Entry) (x : Call) → x.judged ≡ length past → flat_at x.judged (by t a w ∷ past) ≡ flat past
+pub new_then : (t : ℕ) (w : What) (a : Actor) (past : List Entry) (x : Call) → x.judged ≡ length past → flat_at x.judged (by t a w ∷ past) ≡ flat past
 new_then t w a past x e = ap (λ (p : ℕ). flat_at p (by t a w ∷ past)) e ∙ (flat_at_keep (length past) (by t a w) past (omega arith) ∙ flat_at_all past)
 
-takes_new : (t : ℕ) (w : What) (a : Actor) (past : List Entry) (x : Call) (i : Ioctl) (lock : Lock) → x.judged ≡ length past → x.ioctl ≡ i → takes lock x.ioctl (flat_at x.judged (by t a w ∷ past)) ≡ takes lock i (flat past)
+pub takes_new : (t : ℕ) (w : What) (a : Actor) (past : List Entry) (x : Call) (i : Ioctl) (lock : Lock) → x.judged ≡ length past → x.ioctl ≡ i → takes lock x.ioctl (flat_at x.judged (by t a w ∷ past)) ≡ takes lock i (flat past)
 takes_new t w a past x i lock e f =
     ap (λ (s : Flat). takes lock x.ioctl s) (new_then t w a past x e) ∙ ap (λ (j : Ioctl). takes lock j (flat past)) f
 
@@ -160,7 +160,7 @@ apart_judge t i o past k free c d x y lock ne ec ed h =
       ]
     ]
 
-no_new : (w : What) (a : Actor) (c : ℕ) (x : Call) (past : List Entry) → is_judge w ≡ false → NewCall w a c x past → ⊥
+pub no_new : (w : What) (a : Actor) (c : ℕ) (x : Call) (past : List Entry) → is_judge w ≡ false → NewCall w a c x past → ⊥
 no_new (Judge i) a c x past e y = both_ways true e refl
 no_new w a c x past e y = y
 
@@ -177,7 +177,7 @@ apart_keep o t w a past k m = λ c d x y lock ne ec ed h.
     ]
 
 -- what a Change does: its call and its facts
-changer : {s : Setup} (e : Effect) (d : ℕ) (past : List Entry) (o : Option Call) → Locks s past → call d past ≡ o → CanChange s e past o (bracket d past) → (y : Call) × (call d past ≡ Some y) × Facts e y.ioctl (flat_at y.judged past) (flat past)
+pub changer : {s : Setup} (e : Effect) (d : ℕ) (past : List Entry) (o : Option Call) → Locks s past → call d past ≡ o → CanChange s e past o (bracket d past) → (y : Call) × (call d past ≡ Some y) × Facts e y.ioctl (flat_at y.judged past) (flat past)
 changer {s} e d past None k c m = absurd m
 changer {s} e d past (Some y) k c m = (y, c, facts s e d y past (bracket d past) k c m.0 m.1)
 

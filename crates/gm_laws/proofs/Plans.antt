@@ -20,7 +20,8 @@ use Rattle.gm_flat.specs.Window.{in_old_or_new, in_slot}
 use Rattle.gm_flat.specs.declared.effect.Effect.TheVariants.{Attr, Cut, File, Move, NoSlot, Shut, Slot, Word}
 use Rattle.gm_flat.specs.declared.views.SlotView.{SlotView}
 use Rattle.gm_laws.proofs.Flats.{of_file, over, over-dropped, with_id}
-use Rattle.gm_laws.proofs.Ids.{MemSlot}
+use Rattle.gm_laws.proofs.Ids.{MemSlot, over_mem}
+use Rattle.gm_laws.proofs.Kit.{some_same}
 
 abbrev pub IsFlagged : Option ℕ → ℕ → Type 0
 IsFlagged file flags = (F : ℕ) → of_file F file ≡ true → has_flag KVM_MEM_GUEST_MEMFD flags ≡ true
@@ -41,17 +42,22 @@ CutCovers F lo hi spans rows = (g : ℕ) (r : SlotView) → MemSlot r rows → l
 abbrev pub ShutCovers : ℕ → List Extent → List SlotView → Type 0
 ShutCovers F spans rows = (g : ℕ) (r : SlotView) → MemSlot r rows → lies_over r g ≡ true → of_file F r.file ≡ true → any_holds spans g ≡ true
 
+-- the files that slots name are in use
+abbrev pub FilesUsed : Flat → Type 0
+FilesUsed f = (r : SlotView) (F : ℕ) → MemSlot r f.slots → of_file F r.file ≡ true → in_use F f.files ≡ true
+
 abbrev pub Fits : Ioctl → Flat → Plan → Type 0
 Fits i f (Short (File file pages block) n) = Unit {0}
 Fits i f (Short (Word page word value) n) = Unit {0}
-Fits i f (Short (Slot id base pages user flags file index) n) = (takes_slots i ≡ true) × ((g : ℕ) → (leb base g && ltb g (base + pages)) ≡ true → over g f.slots ≡ None) × FileOk file i f × IsFlagged file flags × (with_id id f.slots ≡ None)
+Fits i f (Short (Slot id base pages user flags file index) n) = (takes_slots i ≡ true) × ((g : ℕ) → (leb base g && ltb g (base + pages)) ≡ true → over g f.slots ≡ None) × FileOk file i f × IsFlagged file flags × (with_id id f.slots ≡ None) × (meets_slot base pages f.slots ≡ false) × ((F : ℕ) → of_file F file ≡ true → meets_bound F index pages f.slots ≡ false)
 Fits i f (Short _ n) = ⊥
 Fits i f (Bracketed (NoSlot id) spans) = (takes_slots i ≡ true) × ((g : ℕ) → in_slot g (with_id id f.slots) ≡ true → any_holds spans g ≡ true) × Takes (file_of (with_id id f.slots)) i f
-Fits i f (Bracketed (Move id base) spans) = (takes_slots i ≡ true) × ((g : ℕ) → in_old_or_new g base (with_id id f.slots) ≡ true → (any_holds spans g ≡ true) ⊎ (over g f.slots ≡ None)) × NoMemfd (with_id id f.slots)
+Fits i f (Bracketed (Move id base) spans) = (takes_slots i ≡ true) × ((g : ℕ) → in_old_or_new g base (with_id id f.slots) ≡ true → (any_holds spans g ≡ true) ⊎ (over g f.slots ≡ None)) × NoMemfd (with_id id f.slots) × ((s : SlotView) → with_id id f.slots ≡ Some s → meets_slot base s.pages (dropped id f.slots) ≡ false)
 Fits i f (Bracketed (Attr span kind) spans) = (takes_slots i ≡ true) × ((g : ℕ) → holds span g ≡ true → any_holds spans g ≡ true)
 Fits i f (Bracketed (Cut F lo hi) spans) = (takes_file F i f ≡ true) × (in_use F f.files ≡ true) × CutCovers F lo hi spans f.slots
 Fits i f (Bracketed (Shut F) spans) = (takes_slots i ≡ true) × (takes_file F i f ≡ true) × (in_use F f.files ≡ true) × ShutCovers F spans f.slots
 Fits i f (Bracketed _ spans) = ⊥
+Fits i f (Paged p) = (takes_file p.file i f ≡ true) × (FilesUsed f → in_use p.file f.files ≡ true)
 Fits i f _ = Unit {0}
 
 pub fits_cond : (i : Ioctl) (f : Flat) (t : Bool) (p q : Plan) → (t ≡ true → Fits i f p) → (t ≡ false → Fits i f q) → Fits i f (cond t p q)
@@ -76,8 +82,8 @@ own_file : (r : Region) (f : Flat) (F : ℕ) → of_file F (file_of (with_id r.s
 own_file r f F e = or_right (wants_file r && eqb r.fd F) (of_file F (file_of (with_id r.slot f.slots))) e
 
 -- a new slot
-slot_fits_plan : (r : Region) (f : Flat) (t : Bool) → with_id r.slot f.slots ≡ None → wants_file r ≡ t → (t ≡ true → in_use r.fd f.files ≡ true) → meets_slot (page_of r.gpa) (page_of r.size) f.slots ≡ false → Fits (Region2 r) f (Short (new_slot r t) 0)
-slot_fits_plan r f true n e used m = (
+slot_fits_plan : (r : Region) (f : Flat) (t : Bool) → with_id r.slot f.slots ≡ None → wants_file r ≡ t → (t ≡ true → in_use r.fd f.files ≡ true) → meets_slot (page_of r.gpa) (page_of r.size) f.slots ≡ false → (t ≡ true → meets_bound r.fd (page_of r.offset) (page_of r.size) f.slots ≡ false) → Fits (Region2 r) f (Short (new_slot r t) 0)
+slot_fits_plan r f true n e used m b = (
   refl,
   (λ g h. meets_none (page_of r.gpa) (page_of r.size) g f.slots m h),
   (λ F h. (
@@ -86,8 +92,13 @@ slot_fits_plan r f true n e used m = (
   )),
   (λ F h. e),
   n,
+  m,
+  λ F h. subst (λ (x : ℕ). meets_bound x (page_of r.offset) (page_of r.size) f.slots ≡ false) (eqb-true r.fd F h) (b refl),
 )
-slot_fits_plan r f false n e used m = (refl, (λ g h. meets_none (page_of r.gpa) (page_of r.size) g f.slots m h), (λ F h. absurd (both_ways false refl h)), (λ F h. absurd (both_ways false refl h)), n)
+slot_fits_plan r f false n e used m b = (refl, (λ g h. meets_none (page_of r.gpa) (page_of r.size) g f.slots m h), (λ F h. absurd (both_ways false refl h)), (λ F h. absurd (both_ways false refl h)), n, m, λ F h. absurd (both_ways false refl h))
+
+apart_if : (t u : Bool) → (t && u) ≡ false → t ≡ true → u ≡ false
+apart_if t u e h = grind arith
 
 used_if : (t u : Bool) → (t && not u) ≡ false → t ≡ true → u ≡ true
 used_if t u e h = grind arith
@@ -98,7 +109,7 @@ make_fits r f n =
     (λ m. fits_cond (Region2 r) f (wants_file r && not (in_use r.fd f.files)) (Refused BadF) _ (λ _. tt)
     (λ u. fits_cond (Region2 r) f (wants_file r && ltb (PAGE_BYTES * file_pages r.fd f.files) (r.offset + r.size)) (Refused Inval) _ (λ _. tt)
     (λ _. fits_cond (Region2 r) f (wants_file r && meets_bound r.fd (page_of r.offset) (page_of r.size) f.slots) (Refused Inval) (Short (new_slot r (wants_file r)) 0) (λ _. tt)
-    (λ _. slot_fits_plan r f (wants_file r) n refl (used_if (wants_file r) (in_use r.fd f.files) u) m))))
+    (λ b. slot_fits_plan r f (wants_file r) n refl (used_if (wants_file r) (in_use r.fd f.files) u) m (apart_if (wants_file r) (meets_bound r.fd (page_of r.offset) (page_of r.size) f.slots) b)))))
 
 -- a slot that is there
 move_covers : (r : Region) (s : SlotView) (f : Flat) (g : ℕ) → with_id r.slot f.slots ≡ Some s → meets_slot (page_of r.gpa) (page_of r.size) (dropped r.slot f.slots) ≡ false → s.pages ≡ page_of r.size → in_old_or_new g (page_of r.gpa) (Some s) ≡ true → (any_holds (slot_span s ∷ []) g ≡ true) ⊎ (over g f.slots ≡ None)
@@ -128,6 +139,7 @@ old_fits r f s e =
       refl,
       (λ g h. move_covers r s f g e m (same_pages s.pages (page_of r.size) (not (eqb s.user (page_of r.user))) (not (same_truth (is_readonly s.flags) (is_readonly r.flags))) p) (sym (ap (in_old_or_new g (page_of r.gpa)) e) ∙ h)),
       subst (λ (o : Option SlotView). NoMemfd o) (sym e) (or_parts (has_memfd s) (wants_file r) n).0,
+      (λ q h. ap (λ (x : ℕ). meets_slot (page_of r.gpa) x (dropped r.slot f.slots)) (ap (λ (z : SlotView). z.pages) (some_same q s (sym h ∙ e)) ∙ same_pages s.pages (page_of r.size) (not (eqb s.user (page_of r.user))) (not (same_truth (is_readonly s.flags) (is_readonly r.flags))) p) ∙ m),
     ))))))
 
 slot_plan_fits : (r : Region) (f : Flat) (o : Option SlotView) → with_id r.slot f.slots ≡ o → Fits (Region2 r) f (slot_plan r f o)
@@ -217,13 +229,17 @@ attrs_fits address size attributes flags f =
     (λ _. fits_cond (Attrs address size attributes flags) f (all_have (kind_of attributes) (page_of address) (page_of size) f.attrs) (Same 0) _ (λ _. tt)
     (λ _. (refl, λ g h. or_left (holds (record { lo = page_of address; hi = page_of (address + size) }) g) false h)))))
 
-file_populate-fits : (s : Setup) (i : Ioctl) (page pages user : ℕ) (f : Flat) (r : SlotView) (o : Option ℕ) → Fits i f (file_populate s page pages user r o)
-file_populate-fits s i page pages user f r None = tt
-file_populate-fits s i page pages user f r (Some F) = fits_cond i f (ltb (user_bytes s) (user + PAGE_BYTES * cut_at_end page pages r)) (Refused Inval) (Paged (record { file = F; index = index_of r page; pages = cut_at_end page pages r; base = Some page; copy = Some (page_of user) })) (λ _. tt) (λ _. tt)
+over_used : (F g : ℕ) (f : Flat) (o : Option SlotView) → over g f.slots ≡ o → FilesUsed f → of_file F (file_of o) ≡ true → in_use F f.files ≡ true
+over_used F g f None e u h = absurd (both_ways false refl h)
+over_used F g f (Some r) e u h = u r F (over_mem g r f.slots e).0 h
 
-slot_populate-fits : (s : Setup) (i : Ioctl) (page pages user : ℕ) (f : Flat) (o : Option SlotView) → Fits i f (slot_populate s page pages user o)
-slot_populate-fits s i page pages user f None = tt
-slot_populate-fits s i page pages user f (Some r) = fits_cond i f (has_memfd r) (file_populate s page pages user r r.file) (Refused Inval) (λ _. file_populate-fits s i page pages user f r r.file) (λ _. tt)
+file_populate-fits : (s : Setup) (i : Ioctl) (page pages user : ℕ) (f : Flat) (r : SlotView) (o : Option ℕ) → ((F : ℕ) → of_file F o ≡ true → (takes_file F i f ≡ true) × (FilesUsed f → in_use F f.files ≡ true)) → Fits i f (file_populate s page pages user r o)
+file_populate-fits s i page pages user f r None g = tt
+file_populate-fits s i page pages user f r (Some F) g = fits_cond i f (ltb (user_bytes s) (user + PAGE_BYTES * cut_at_end page pages r)) (Refused Inval) (Paged (record { file = F; index = index_of r page; pages = cut_at_end page pages r; base = Some page; copy = Some (page_of user) })) (λ _. tt) (λ _. g F (eq-eqb F F refl))
+
+slot_populate-fits : (s : Setup) (i : Ioctl) (page pages user : ℕ) (f : Flat) (o : Option SlotView) → ((F : ℕ) → of_file F (file_of o) ≡ true → (takes_file F i f ≡ true) × (FilesUsed f → in_use F f.files ≡ true)) → Fits i f (slot_populate s page pages user o)
+slot_populate-fits s i page pages user f None g = tt
+slot_populate-fits s i page pages user f (Some r) g = fits_cond i f (has_memfd r) (file_populate s page pages user r r.file) (Refused Inval) (λ _. file_populate-fits s i page pages user f r r.file g) (λ _. tt)
 
 -- every plan fits
 pub fits : (s : Setup) (i : Ioctl) (f : Flat) → Fits i f (plan s i f)
@@ -239,7 +255,7 @@ fits s (Peek address) f = fits_cond (Peek address) f (bad_word s address) (Refus
 fits s (Allocate fd offset n) f =
     fits_cond (Allocate fd offset n) f (bad_range offset n) (Refused Inval) _ (λ _. tt)
     (λ _. fits_cond (Allocate fd offset n) f (not (in_use fd f.files)) (Refused BadF) _ (λ _. tt)
-    (λ _. fits_cond (Allocate fd offset n) f (ltb (PAGE_BYTES * file_pages fd f.files) (offset + n)) (Refused Inval) (Paged (record { file = fd; index = page_of offset; pages = page_of n; base = None; copy = None })) (λ _. tt) (λ _. tt)))
+    (λ u. fits_cond (Allocate fd offset n) f (ltb (PAGE_BYTES * file_pages fd f.files) (offset + n)) (Refused Inval) (Paged (record { file = fd; index = page_of offset; pages = page_of n; base = None; copy = None })) (λ _. tt) (λ _. (eq-eqb fd fd refl, λ _. not_not (in_use fd f.files) u))))
 fits s (Populate gpa pages user) f =
     fits_cond (Populate gpa pages user) f (not (is_paged gpa && is_paged user) || eqb pages 0) (Refused Inval) (slot_populate s (page_of gpa) pages user (over (page_of gpa) f.slots)) (λ _. tt)
-    (λ _. slot_populate-fits s (Populate gpa pages user) (page_of gpa) pages user f (over (page_of gpa) f.slots))
+    (λ _. slot_populate-fits s (Populate gpa pages user) (page_of gpa) pages user f (over (page_of gpa) f.slots) (λ F h. (h, λ u. over_used F (page_of gpa) f (over (page_of gpa) f.slots) refl u h)))

@@ -25,13 +25,14 @@ use Rattle.gm_laws.proofs.LocksKeep.{CanChange, can_change}
 use Rattle.gm_laws.proofs.Plans.{Fits, fits}
 use Rattle.gm_laws.proofs.Rows.{false_true}
 use Rattle.gm_laws.specs.Ruled.{cuts, loosens}
+use Rattle.gm_laws.specs.WrongBodies.{at}
 
-abbrev none_loose : List What → Bool
+abbrev pub none_loose : List What → Bool
 none_loose [] = true
 none_loose (w ∷ ws) = cond (loosens w) false (none_loose ws)
 
 -- none of the further entries cuts or retries, but maybe the Change right after a Judge
-abbrev tail_quiet : List What → Bool
+abbrev pub tail_quiet : List What → Bool
 tail_quiet [] = true
 tail_quiet (Judge i ∷ (Change e ∷ ws)) = none_loose ws
 tail_quiet (w ∷ ws) = none_loose ws
@@ -77,7 +78,7 @@ caller_quiet s (Answer x ∷ []) f e = refl
 caller_quiet s (Gone ∷ []) f e = refl
 caller_quiet s _ f e = false_true e
 
-row_quiet : (s : Setup) (a : Actor) (ws : List What) (f : Flat) → is_row s a ws f ≡ true → tail_quiet ws ≡ true
+pub row_quiet : (s : Setup) (a : Actor) (ws : List What) (f : Flat) → is_row s a ws f ≡ true → tail_quiet ws ≡ true
 row_quiet s (Vcpu v) ws f e = vcpu_quiet ws e
 row_quiet s (Caller c) ws f e = caller_quiet s ws f e
 
@@ -95,7 +96,7 @@ third_on (Judge i) (Change e) ws q = q
 third_on (Judge i) y ws q = (quiet_here (loosens y) (none_loose ws) q).1
 third_on x y ws q = (quiet_here (loosens y) (none_loose ws) q).1
 
-abbrev IsJudge : What → Type 0
+abbrev pub IsJudge : What → Type 0
 IsJudge (Judge i) = Unit {0}
 IsJudge _ = ⊥
 
@@ -104,12 +105,12 @@ second (Judge i) w ws q l = tt
 second x w ws q l = absurd (both_ways (loosens w) (quiet_here (loosens w) (none_loose ws) q).0 l)
 
 -- an entry that loosens and doesn't begin its turn comes right after a Judge
-abbrev IsOneJudge : List What → Type 0
+abbrev pub IsOneJudge : List What → Type 0
 IsOneJudge [] = Unit {0}
 IsOneJudge (x ∷ []) = IsJudge x
 IsOneJudge (x ∷ (y ∷ ws)) = ⊥
 
-late_loose : (ws : List What) (w : What) (rest : List What) → tail_quiet (ws ++ w ∷ rest) ≡ true → loosens w ≡ true → IsOneJudge ws
+pub late_loose : (ws : List What) (w : What) (rest : List What) → tail_quiet (ws ++ w ∷ rest) ≡ true → loosens w ≡ true → IsOneJudge ws
 late_loose [] w rest q l = tt
 late_loose (x ∷ []) w rest q l = second x w rest q l
 late_loose (x ∷ (y ∷ ws)) w rest q l = absurd (both_ways (loosens w) (quiet_in ws w rest (third_on x y (ws ++ w ∷ rest) q)) l)
@@ -124,7 +125,7 @@ not_empty d p w h = go (same_turn d p) (newest_turn p) h
     go true (x ∷ (y ∷ ws)) h = h
     go false ws h = h
 
-last_judge : (d : Entry) (p : List Entry) → IsOneJudge (newest_turn (d ∷ p)) → IsJudge d.what
+pub last_judge : (d : Entry) (p : List Entry) → IsOneJudge (newest_turn (d ∷ p)) → IsJudge d.what
 last_judge d [] h = h
 last_judge d (e ∷ p) h = go (same_turn d (e ∷ p)) h
   where

@@ -35,7 +35,7 @@ right_level o (Install page level) (Vcpu v) past m = m.1
 right_level o (Install page level) (Caller c) past m = absurd m
 right_level o w a past m = tt
 
-right_calls : (o : Orders) (w : What) (a : Actor) (past : List Entry) → May o w a past → RightCalls o.setup w a past
+pub right_calls : (o : Orders) (w : What) (a : Actor) (past : List Entry) → May o w a past → RightCalls o.setup w a past
 right_calls o (Begin spans) (Caller c) past m = m.1
 right_calls o (Begin spans) (Vcpu v) past m = absurd m
 right_calls o (Change effect) (Caller c) past m = m.1
@@ -59,7 +59,7 @@ retries_looked past (Faulting a m (Some s) None q) i = absurd i
 retries_looked past (Faulting a m None l q) i = absurd i
 retries_looked past NoFault i = absurd i
 
-step_is : (o : Orders) (w : What) (a : Actor) (past : List Entry) → May o w a past → StepIs o w a past
+pub step_is : (o : Orders) (w : What) (a : Actor) (past : List Entry) → May o w a past → StepIs o w a past
 step_is o Enter (Vcpu v) past m = m
 step_is o Flush (Vcpu v) past m = m
 step_is o (Miss a) (Vcpu v) past m = m.command

@@ -1,5 +1,5 @@
 -- A change that its table allows is safe, by the locks.
-use Rattle.std.proofs.Common.{◌&&◌, List, None, Option, Some, [], ap, false, inl, inr, leb, ltb, refl, subst, sym, true, ℕ, ◌∙◌, ◌∷◌, ◌≡◌, ◌⊎◌}
+use Rattle.std.proofs.Common.{◌&&◌, List, None, Option, Some, ap, false, inl, inr, leb, ltb, refl, subst, sym, true, ℕ, ◌∙◌, ◌≡◌, ◌⊎◌}
 use Rattle.std.proofs.lemmas.Bool.{and_from, and_parts, both_ways}
 use Rattle.gm_base.specs.Extent.{Extent}
 use Rattle.gm_base.specs.declared.calls.Ioctl.{Ioctl}
@@ -17,20 +17,12 @@ use Rattle.gm_flat.specs.declared.effect.Effect.TheVariants.{Attr, Cut, File, Mo
 use Rattle.gm_flat.specs.declared.entry.Entry.{Entry}
 use Rattle.gm_flat.specs.declared.views.SlotView.{SlotView}
 use Rattle.gm_laws.proofs.Flats.{of_file, over, with_id}
-use Rattle.gm_laws.proofs.Ids.{MemSlot}
+use Rattle.gm_laws.proofs.Ids.{MemSlot, over_mem}
 use Rattle.gm_laws.proofs.KeepCaller.{Safe}
-use Rattle.gm_laws.proofs.Kit.{cond_is, none_is, some_same}
+use Rattle.gm_laws.proofs.Kit.{some_same}
 use Rattle.gm_laws.proofs.Locks.{Locks, MemRow-bound, MemRow-unbound, bound}
 use Rattle.gm_laws.proofs.LocksKeep.{CanChange}
 use Rattle.gm_laws.proofs.Plans.{Fits, fits}
-
-pub over_mem : (g : ℕ) (r : SlotView) (rs : List SlotView) → over g rs ≡ Some r → MemSlot r rs × (lies_over r g ≡ true)
-over_mem g r [] e = absurd (none_is r e)
-over_mem g r (x ∷ xs) e =
-    elim (cond_is (lies_over x g) (Some x) (over g xs) (Some r) e) [
-      | inl y ↦ let s : x ≡ r = some_same x r y.1 in (inl (sym s), ap (λ (z : SlotView). lies_over z g) (sym s) ∙ y.0)
-      | inr y ↦ let z = over_mem g r xs y.1 in (inr z.0, z.1)
-    ]
 
 -- the row over a page of a file is there in the other state too
 same_row : (F g : ℕ) (r : SlotView) (f h : Flat) → bound F f.slots ≡ bound F h.slots → over g f.slots ≡ Some r → of_file F r.file ≡ true → MemSlot r h.slots × (lies_over r g ≡ true)

@@ -25,17 +25,17 @@ use Rattle.gm_flat.specs.declared.entry.What.{What}
 use Rattle.gm_flat.specs.declared.entry.What.TheVariants.{Acked, Begin, Change, End, Enter, Flush, Get, Gone, Install, Miss, Retry, Touch}
 use Rattle.gm_flat.specs.declared.views.SlotView.{SlotView}
 use Rattle.gm_laws.proofs.Flats.{of_file, over}
-use Rattle.gm_laws.proofs.Good.{Good, KindIs, LookOk, LooksSince, FaultOk, fill_at_more, from_more, looks_more, since_more}
+use Rattle.gm_laws.proofs.Good.{FaultOk, Good, KindIs, LookOk, LooksSince, fill_at_more, from_more, looks_more, since_more}
 use Rattle.gm_laws.proofs.Grow.{grow, looked_over, same_look, stale_since}
-use Rattle.gm_laws.proofs.Ids.{MemSlot}
-use Rattle.gm_laws.proofs.Keep.{keep_enter, keep_flush, keep_gone, keep_miss, faults_keep}
+use Rattle.gm_laws.proofs.Ids.{MemSlot, over_mem}
+use Rattle.gm_laws.proofs.Keep.{faults_keep, keep_enter, keep_flush, keep_gone, keep_miss}
 use Rattle.gm_laws.proofs.KeepCaller.{keep_acked, keep_begin, keep_change, keep_end}
 use Rattle.gm_laws.proofs.KeepVcpu.{IsFirst, install_right, installed, is_first, keep_install, keep_touch, serves_use, walked}
 use Rattle.gm_laws.proofs.Kit.{by, changed-le, flat_at_all, none_is, settled-le, some_same}
 use Rattle.gm_laws.proofs.Locks.{Locks, SlotFiles}
 use Rattle.gm_laws.proofs.LocksKeep.{can_change, locks_keep}
 use Rattle.gm_laws.proofs.Routes.{route_file}
-use Rattle.gm_laws.proofs.SafeChange.{over_mem, safe}
+use Rattle.gm_laws.proofs.SafeChange.{safe}
 use Rattle.gm_laws.proofs.Tally.{tally}
 use Rattle.gm_laws.specs.May.{May, MayRetry, MayTouch, ServedBy}
 use Rattle.gm_laws.specs.Ruled.{Follows}

@@ -12,6 +12,9 @@ pub mod PopulationAndClose
 pub mod Readings
 pub mod Rows
 pub mod Ruled
+pub mod SlotsStand
 pub mod Stands
+pub mod TouchFrames
 pub mod TouchesNow
+pub mod Turns
 pub mod WrongBodies

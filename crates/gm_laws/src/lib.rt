@@ -17,5 +17,6 @@ pub use meanings::{
 };
 pub use rightness::{
     count_is_begins_less_ends, frames_differ_everywhere, fronts_of_right_are_right,
-    invariant_holds, right_is_ruled, ruled_is_right, touches_are_named_now, words_are_last_written,
+    invariant_holds, right_is_ruled, ruled_is_right, slots_stand_apart, touches_are_named_now,
+    touches_name_their_frames, turns_keep_ruled, words_are_last_written,
 };

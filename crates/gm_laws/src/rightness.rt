@@ -4,20 +4,31 @@ ghost use Rattle.std.specs.Prelude.{ℕ, ◌≡◌, ◌+◌, List, false};
 ghost use Rattle.gm_base.specs.Scripts.{Orders};
 ghost use Rattle.gm_flat.specs.Histories.{same_turn};
 ghost use Rattle.gm_flat.specs.Invalidation.{count};
+ghost use Rattle.gm_flat.specs.Replay.{flat};
 ghost use Rattle.gm_flat.specs.RightHistory.{Each, Right};
 ghost use Rattle.gm_flat.specs.Words.{folio_word};
+ghost use Rattle.gm_base.specs.declared.values.Actor.{Actor};
 ghost use Rattle.gm_flat.specs.declared.entry.Entry.{Entry};
+ghost use Rattle.gm_flat.specs.declared.entry.What.{What};
 ghost use Rattle.gm_laws.specs.Contents.{added_word, last_write, or_else};
 ghost use Rattle.gm_laws.specs.Invariant.{Invariant};
 ghost use Rattle.gm_laws.specs.LivesEverywhere.{LivesEverywhere};
 ghost use Rattle.gm_laws.specs.Readings.{how_many, is_begin, is_end};
 ghost use Rattle.gm_laws.specs.Ruled.{Ruled};
+ghost use Rattle.gm_laws.specs.SlotsStand.{SlotsStand};
 ghost use Rattle.gm_laws.specs.Stands.{Stands};
+ghost use Rattle.gm_laws.specs.TouchFrames.{TouchFrames};
 ghost use Rattle.gm_laws.specs.TouchesNow.{TouchesNow};
+ghost use Rattle.gm_laws.specs.Turns.{IsTurn, onto};
 
 /// A history that follows the tables is right.
 pub fn ruled_is_right()
     ensures { (o : Orders) (past : List Entry) → Ruled o past → Right o past }
+{}
+
+/// A whole turn by the tables keeps a history that follows them.
+pub fn turns_keep_ruled()
+    ensures { (o : Orders) (turn : ℕ) (actor : Actor) (ws : List What) (past : List Entry) → IsTurn o turn actor ws past → Ruled o past → Ruled o (onto turn actor ws past) }
 {}
 
 /// A right history follows the tables.
@@ -59,4 +70,16 @@ pub fn frames_differ_everywhere()
 pub fn invariant_holds()
     ensures now { (o : Orders) (past : List Entry) → Right o past → Invariant past }
     ensures before { (o : Orders) (e : Entry) (front past : List Entry) → Right o past → Stands e front past → Invariant front }
+{}
+
+/// A touch of a folio names the frame that the folio was added with, so its serial alone tells it.
+pub fn touches_name_their_frames()
+    ensures { (o : Orders) (past : List Entry) → Right o past → Each (λ e p. TouchFrames e.what e.actor p) past }
+{}
+
+/// At every position of a right history: slots have different ids and don't meet; slots of one file are bound apart; the file
+/// of a slot is in use; and what is cached is cached in a file that is in use.
+pub fn slots_stand_apart()
+    ensures now { (o : Orders) (past : List Entry) → Right o past → SlotsStand (flat past) }
+    ensures before { (o : Orders) (e : Entry) (front past : List Entry) → Right o past → Stands e front past → SlotsStand (flat front) }
 {}
