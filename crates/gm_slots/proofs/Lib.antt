@@ -1,0 +1,4 @@
+pub mod Lists
+pub mod Goods
+pub mod Finding
+pub mod Judging

@@ -1,0 +1,65 @@
+use super::*;
+use gm_base::{Errno, PAGE_LIMIT, Page, Region};
+use std::test::Fail;
+
+fn crosses_threads<T: Send + Sync>() {}
+
+#[test]
+fn values_cross_threads() {
+    crosses_threads::<Change>();
+    crosses_threads::<Slots>();
+}
+
+#[test]
+fn a_slot_that_meets_another(rt: HostRuntime) -> Result<(), Fail> {
+    let mut slots = Slots::new(rt.alloc()).ok().ok_or("memory")?;
+    let first = Region {
+        slot: 0,
+        flags: 0,
+        gpa: 0,
+        size: 16384,
+        user: 0,
+        fd: 0,
+        offset: 0,
+    };
+    let change = slots.judge(&first).ok().ok_or("a change")?;
+    assert_eq!(rt; change, Change::Make);
+    slots.apply(&first, change);
+    let second = Region {
+        slot: 1,
+        flags: 0,
+        gpa: 12288,
+        size: 4096,
+        user: 0,
+        fd: 0,
+        offset: 0,
+    };
+    assert_eq!(rt; slots.judge(&second), Err(Errno::Exist));
+    assert_eq!(rt; slots.generation(), 1);
+    Ok(())
+}
+
+#[test]
+fn the_last_page_and_the_last_id(rt: HostRuntime) -> Result<(), Fail> {
+    let mut slots = Slots::new(rt.alloc()).ok().ok_or("memory")?;
+    let last = Region {
+        slot: 511,
+        flags: 4,
+        gpa: 18_446_744_073_709_543_424,
+        size: 4096,
+        user: 0,
+        fd: 7,
+        offset: 8192,
+    };
+    let change = slots.judge(&last).ok().ok_or("a change")?;
+    slots.apply(&last, change);
+    let page = Page::new(PAGE_LIMIT - 2).ok_or("a page")?;
+    let slot = slots.find(page).ok_or("a slot")?;
+    assert_eq!(rt; slot.file, Some(7));
+    assert_eq!(rt; slot.index, 2);
+    assert_eq!(rt; slots.find(Page::new(0).ok_or("a page")?), None);
+    slots.shut(7);
+    let slot = slots.by_id(511).ok_or("a slot")?;
+    assert_eq!(rt; slot.file, None);
+    Ok(())
+}
