@@ -1,12 +1,13 @@
 -- Taking away what meets each span in turn takes away what meets one of them.
 use Rattle.std.proofs.Common.{◌≡◌, ℕ, ◌+◌, ◌<◌, List, [], ◌∷◌, length, drop, get_or, refl, ap, ◌∙◌, Bool, true, false, ◌||◌, add-one}
-use Rattle.std.specs.Prelude.{if◌then◌else◌}
+use Rattle.std.specs.Prelude.{None, Some, if◌then◌else◌}
+use Rattle.std.specs.declared.option.Option.{Option}
 use Rattle.std.proofs.Math.Seq.{drop-cons}
 use Rattle.gm_base.specs.Extent.{Extent}
 use Rattle.gm_base.specs.Leaf.{meets_leaf}
 use Rattle.gm_base.specs.declared.leaf.Leaf.{Leaf}
-use Rattle.gm_table.specs.Leaves.{apart_from}
-use Rattle.gm_mmu.specs.Served.{meets_one, apart_from_all}
+use Rattle.gm_table.specs.Leaves.{apart_from, unless_met}
+use Rattle.gm_mmu.specs.Served.{meets_one, apart_from_all, unless_one_met}
 
 pub apart_from_all-none : (leaves : List Leaf) → apart_from_all [] leaves ≡ leaves
 apart_from_all-none [] = refl
@@ -29,4 +30,21 @@ pub apart_from_all-step : (spans : List Extent) (i : ℕ) (d : Extent) (leaves :
 apart_from_all-step spans i d leaves h =
     ap (λ (ss : List Extent). apart_from_all ss leaves) (drop-cons spans i d h) ∙ rw (← add-one) (apart_from_all-first (get_or spans i d) (drop (i + 1) spans) leaves)
 
-pub ruleset zapping = (apart_from_all-none, apart_from_all-step)
+pub unless_one_met-none : (o : Option Leaf) → unless_one_met [] o ≡ o
+unless_one_met-none None = refl
+unless_one_met-none (Some leaf) = refl
+
+unless_one_met-first : (s : Extent) (spans : List Extent) (o : Option Leaf) → unless_one_met (s ∷ spans) o ≡ unless_one_met spans (unless_met s o)
+unless_one_met-first s spans None = refl
+unless_one_met-first s spans (Some leaf) = cases (meets_leaf leaf s)
+  where
+    cases : (b : Bool) → (if b || meets_one spans leaf then None else Some leaf) ≡ unless_one_met spans (if b then None else Some leaf)
+    cases true = refl
+    cases false = refl
+
+-- the same step for the leaf over a page
+pub unless_one_met-step : (spans : List Extent) (i : ℕ) (d : Extent) (o : Option Leaf) → i < length spans → unless_one_met (drop i spans) o ≡ unless_one_met (drop (i + 1) spans) (unless_met (get_or spans i d) o)
+unless_one_met-step spans i d o h =
+    ap (λ (ss : List Extent). unless_one_met ss o) (drop-cons spans i d h) ∙ rw (← add-one) (unless_one_met-first (get_or spans i d) (drop (i + 1) spans) o)
+
+pub ruleset zapping = (apart_from_all-none, apart_from_all-step, unless_one_met-none, unless_one_met-step)

@@ -34,6 +34,11 @@ abbrev pub apart_from_all : List Extent → List Leaf → List Leaf
 apart_from_all spans [] = []
 apart_from_all spans (leaf ∷ leaves) = if meets_one spans leaf then apart_from_all spans leaves else leaf ∷ apart_from_all spans leaves
 
+-- a leaf, unless it meets one of the spans
+abbrev pub unless_one_met : List Extent → Option Leaf → Option Leaf
+unless_one_met spans None = None
+unless_one_met spans (Some leaf) = if meets_one spans leaf then None else Some leaf
+
 -- the fill of a leaf at a position, where it serves the access
 abbrev pub walked : Option Leaf → Aim → ℕ → Option Fill
 walked None a at = None

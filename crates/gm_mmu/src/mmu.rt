@@ -1,11 +1,12 @@
 //! The memory unit.
 
-ghost use Rattle.std.specs.Prelude.{◌≡◌, ◌+◌, ◌-◌, ◌<◌, ◌≤◌, ◌^◌, ◌∷◌, [], ◌||◌, None, not, nat_eq, false, true, take, length, replicate, slice_set, IfOk, OnOk, OnErr, MatchOption};
+ghost use Rattle.std.specs.Prelude.{◌≡◌, ℕ, Some, if◌then◌else◌, ◌+◌, ◌-◌, ◌<◌, ◌≤◌, ◌^◌, ◌∷◌, [], ◌||◌, None, not, nat_eq, false, true, take, length, replicate, slice_set, IfOk, OnOk, OnErr, MatchOption};
+ghost use Rattle.gm_base.specs.Leaf.{covers};
 ghost use Rattle.gm_base.specs.declared.numbers.TheConstants.{BUFFER_FILLS, COUNTER_LIMIT};
 ghost use Rattle.gm_inval.specs.Range.{begun, open_range, range_holds, range_meets};
-ghost use Rattle.gm_table.specs.Leaves.{installed, leaf_over, IsInstallable};
+ghost use Rattle.gm_table.specs.Leaves.{extent_of, installed, leaf_over, unless_met, IsInstallable};
 ghost use Rattle.gm_tlb.specs.Requests.{outside, seat_of, with_seat, has_pending, IsDoneByAll, IsLeastWaiting};
-ghost use Rattle.gm_mmu.specs.Served.{fills_of, apart_from_all, served, walked};
+ghost use Rattle.gm_mmu.specs.Served.{fills_of, apart_from_all, unless_one_met, served, walked};
 
 use gm_base::{Access, Leaf, NoMemory, Page, Span};
 use gm_inval::Inval;
@@ -74,6 +75,7 @@ impl Mmu {
         requires asked { self.old.requests.asked < COUNTER_LIMIT }
         ensures number { result ≡ self.old.requests.asked + 1 }
         ensures leaves { self.new.leaves ≡ apart_from_all spans.now self.old.leaves }
+        ensures over { (page : ℕ) → leaf_over self.new.leaves page ≡ unless_one_met spans.now (leaf_over self.old.leaves page) }
         ensures progress { self.new.progress ≡ begun self.old.progress spans.now }
         ensures requests { self.new.requests ≡ record { asked = self.old.requests.asked + 1; seats = self.old.requests.seats } }
         ensures fills { self.new.fills ≡ self.old.fills }
@@ -172,6 +174,7 @@ impl Mmu {
         requires room { 1 ≤ self.old.spare }
         requires leaf { IsInstallable leaf }
         ensures leaves { self.new.leaves ≡ installed leaf self.old.leaves }
+        ensures over { (page : ℕ) → leaf_over self.new.leaves page ≡ (if covers leaf page then Some leaf else unless_met (extent_of leaf) (leaf_over self.old.leaves page)) }
         ensures spare { self.old.spare ≤ self.new.spare + 1 }
         ensures rest { self.new ≡ record self.old { leaves = self.new.leaves; spare = self.new.spare } }
     {
@@ -229,6 +232,7 @@ fn empty_buffers(alloc: Global, vcpus: u32) -> Result<Vec<Tlb>, NoMemory>
 #[tactic(auto, using(crate::proofs::Spans::zapping))]
 fn zap_all(table: &mut Table, spans: &[Span])
     ensures leaves { table.new.leaves ≡ apart_from_all spans.now table.old.leaves }
+    ensures over { (page : ℕ) → leaf_over table.new.leaves page ≡ unless_one_met spans.now (leaf_over table.old.leaves page) }
     ensures spare { table.new.spare ≡ table.old.spare }
 {
     for span in spans {

@@ -29,6 +29,11 @@ abbrev pub apart_from : Extent → List Leaf → List Leaf
 apart_from s [] = []
 apart_from s (leaf ∷ leaves) = if meets_leaf leaf s then apart_from s leaves else leaf ∷ apart_from s leaves
 
+-- a leaf, unless it meets a span
+abbrev pub unless_met : Extent → Option Leaf → Option Leaf
+unless_met s None = None
+unless_met s (Some leaf) = if meets_leaf leaf s then None else Some leaf
+
 -- with one more in its place
 abbrev pub place : Leaf → List Leaf → List Leaf
 place leaf [] = leaf ∷ []

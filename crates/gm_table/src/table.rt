@@ -1,10 +1,11 @@
 //! The table.
 
-ghost use Rattle.std.specs.Prelude.{◌≡◌, ℕ, IfOk, ◌+◌, ◌*◌, ◌/◌, ◌<◌, ◌≤◌, [], ◌∷◌, length, OnOk, OnErr};
+ghost use Rattle.std.specs.Prelude.{◌≡◌, ℕ, IfOk, ◌+◌, ◌*◌, ◌/◌, ◌<◌, ◌≤◌, [], ◌∷◌, length, Some, if◌then◌else◌, OnOk, OnErr};
+ghost use Rattle.gm_base.specs.Leaf.{covers};
 ghost use Rattle.gm_base.specs.declared.numbers.TheConstants.{BLOCK_PAGES};
 ghost use Rattle.gm_radix.specs.Entries.{lookup, without};
 ghost use Rattle.gm_table.specs.Kept.{leaves_of, covering, IsKept};
-ghost use Rattle.gm_table.specs.Leaves.{apart_from, installed, leaf_over, LieApart, IsInstallable};
+ghost use Rattle.gm_table.specs.Leaves.{apart_from, extent_of, installed, leaf_over, unless_met, LieApart, IsInstallable};
 
 use gm_base::{BLOCK_PAGES, Leaf, Level, NoMemory, Page, Span};
 use gm_radix::Radix;
@@ -65,6 +66,7 @@ impl Table {
         requires room { 1 ≤ self.old.spare }
         requires leaf { IsInstallable leaf }
         ensures leaves { self.new.leaves ≡ installed leaf self.old.leaves }
+        ensures over { (page : ℕ) → leaf_over self.new.leaves page ≡ (if covers leaf page then Some leaf else unless_met (extent_of leaf) (leaf_over self.old.leaves page)) }
         ensures spare { self.old.spare ≤ self.new.spare + 1 }
     {
         let end = leaf.first + leaf.level.pages();
@@ -76,6 +78,7 @@ impl Table {
     /// Takes the leaves away that meet the span, and answers how many they were.
     pub fn zap(&mut self, span: Span) -> u64
         ensures leaves { self.new.leaves ≡ apart_from span self.old.leaves }
+        ensures over { (page : ℕ) → leaf_over self.new.leaves page ≡ unless_met span (leaf_over self.old.leaves page) }
         ensures count { result + length self.new.leaves ≡ length self.old.leaves }
         ensures spare { self.new.spare ≡ self.old.spare }
     {

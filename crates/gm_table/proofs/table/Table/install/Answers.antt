@@ -1,7 +1,9 @@
 use Rattle.std.proofs.Common.{◌≡◌, ap, ◌∙◌, arith, List}
 use Rattle.gm_base.specs.declared.leaf.Leaf.{Leaf}
 use Rattle.gm_table.specs.Kept.{leaves_of}
-use Rattle.gm_table.specs.Leaves.{Mapped, apart_from, place, extent_of, installed}
+use Rattle.gm_table.specs.Leaves.{Mapped, apart_from, place, extent_of, installed, leaf_over, LieApart}
+use Rattle.gm_table.proofs.Members.{lie_apart}
+use Rattle.gm_table.proofs.Points.{leaf_over-installed}
 use Rattle.gm_table.proofs.Installs.{IsKept-without, IsPut, is_put, none_meet}
 use Rattle.gm_table.proofs.table.Table.install.Goals as goal
 
@@ -20,3 +22,8 @@ invariant_of-self c = rw c.insert.ensures.entries (put_there c).kept
 pub returns-clause-leaves : goal.returns-clause-leaves
 returns-clause-leaves c =
     rw c.insert.ensures.entries ((put_there c).leaves ∙ (ap (λ (ls : List Leaf). place c.args.leaf ls) (apart c) ∙ ap (λ (m : Mapped). installed c.args.leaf m.leaves) c.self.view_is))
+
+pub returns-clause-over : goal.returns-clause-over
+returns-clause-over c page =
+    let lie : LieApart 0 c.args.self.now.leaves = rw (← c.self.view_is) (lie_apart 0 _ c.self.invariant) in
+    ap (λ (ls : List Leaf). leaf_over ls page) (returns-clause-leaves c) ∙ leaf_over-installed 0 c.args.leaf c.args.self.now.leaves page lie
