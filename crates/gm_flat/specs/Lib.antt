@@ -9,6 +9,7 @@ pub mod Mappings
 pub mod NamedPage
 pub mod Plays
 pub mod Replay
+pub mod Replayed
 pub mod RightCalls
 pub mod RightHistory
 pub mod RightInstall

@@ -5,7 +5,7 @@ use crate::spans::Spans;
 use gm_base::{Access, Actor, Folio, Ioctl, Kind, Level, Page};
 
 /// What an actor did in a turn. Turns are numbered from 1.
-#[derive(Debug, Drop)]
+#[derive(Clone, Debug, Drop)]
 pub struct Entry {
     pub turn: u64,
     pub actor: Actor,
@@ -13,7 +13,7 @@ pub struct Entry {
 }
 
 /// The kinds of entry. An `at` and a `fill` are positions in the history, from 0.
-#[derive(Debug, Drop)]
+#[derive(Clone, Debug, Drop)]
 pub enum What {
     /// A vCPU enters the guest.
     Enter,

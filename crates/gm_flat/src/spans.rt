@@ -3,7 +3,7 @@
 ghost use Rattle.std.specs.Prelude.{◌≡◌, ◌+◌, ◌-◌, ◌<◌, ◌≤◌, ◌++◌, ◌∷◌, [], OnOk, OnErr, IfOk, IsOk};
 
 use gm_base::{NoMemory, Span};
-use std::alloc::Global;
+use std::alloc::{AllocError, Global};
 use std::marker::Model;
 
 /// Spans in order, and how many more can be pushed without memory.
@@ -52,5 +52,20 @@ impl Spans {
         ensures { result.now ≡ self.now.list }
     {
         &self.items
+    }
+}
+
+impl Clone for Spans {
+    ghost is_clone = { λ spans copy. copy ≡ spans };
+
+    /// The same spans, with the same room to spare.
+    fn clone(&self) -> Result<Spans, AllocError> {
+        let mut items = Vec::new(*self.items.allocator());
+        items.reserve(self.items.len() + self.spare as usize)?;
+        items.extend_from_slice(self.list())?;
+        Ok(Spans {
+            items,
+            spare: self.spare,
+        })
     }
 }
