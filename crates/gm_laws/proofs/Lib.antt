@@ -1,11 +1,11 @@
 mod Tally
-mod Kit
+pub mod Kit
 mod Flats
 mod Ids
-mod Good
+pub mod Good
 mod Routes
 mod Adds
-mod Grow
+pub mod Grow
 mod Keep
 mod KeepVcpu
 mod KeepCaller
@@ -40,3 +40,5 @@ pub mod FlushPendingPlays
 pub mod Frames
 pub mod SlotsKeep
 pub mod TurnsKeep
+pub mod BoundRanges
+pub mod Whole

@@ -49,20 +49,20 @@ use Rattle.gm_laws.specs.SlotsStand.{AllOf, HasOtherId, IsBoundApart, LiesApart,
 use Rattle.gm_laws.specs.Stands.{Stands}
 
 -- lists of slots
-all_map : (P Q : SlotView → Type 0) (rs : List SlotView) → ((r : SlotView) → P r → Q r) → AllOf P rs → AllOf Q rs
+pub all_map : (P Q : SlotView → Type 0) (rs : List SlotView) → ((r : SlotView) → P r → Q r) → AllOf P rs → AllOf Q rs
 all_map P Q [] f a = tt
 all_map P Q (r ∷ rs) f a = (f r a.0, all_map P Q rs f a.1)
 
-all_dropped : (P : SlotView → Type 0) (id : ℕ) (rs : List SlotView) → AllOf P rs → AllOf P (dropped id rs)
+pub all_dropped : (P : SlotView → Type 0) (id : ℕ) (rs : List SlotView) → AllOf P rs → AllOf P (dropped id rs)
 all_dropped P id [] a = tt
 all_dropped P id (r ∷ rs) a = cond_P (AllOf P) (eqb r.id id) rs (r ∷ dropped id rs) a.1 (a.0, all_dropped P id rs a.1)
 
-all_shut : (P Q : SlotView → Type 0) (F : ℕ) (rs : List SlotView) → ((r : SlotView) → P r → Q (shut_slot F r)) → AllOf P rs → AllOf Q (shut_slots F rs)
+pub all_shut : (P Q : SlotView → Type 0) (F : ℕ) (rs : List SlotView) → ((r : SlotView) → P r → Q (shut_slot F r)) → AllOf P rs → AllOf Q (shut_slots F rs)
 all_shut P Q F [] f a = tt
 all_shut P Q F (r ∷ rs) f a = (f r a.0, all_shut P Q F rs f a.1)
 
 -- of the slot that moves and of the others
-all_moved : (P : SlotView → Type 0) (id base : ℕ) (rs : List SlotView) → ((r : SlotView) → with_id id rs ≡ Some r → P (record r { base = base })) → AllOf P rs → AllOf P (moved id base rs)
+pub all_moved : (P : SlotView → Type 0) (id base : ℕ) (rs : List SlotView) → ((r : SlotView) → with_id id rs ≡ Some r → P (record r { base = base })) → AllOf P rs → AllOf P (moved id base rs)
 all_moved P id base [] f a = tt
 all_moved P id base (r ∷ rs) f a = go (eqb r.id id) refl (λ g. all_moved P id base rs g a.1)
   where
@@ -82,7 +82,7 @@ pair_shut R F (r ∷ rs) f a = (all_shut (R r) (R (shut_slot F r)) F rs (f r) a.
 abbrev BaseFree : (SlotView → SlotView → Type 0) → Type 0
 BaseFree R = (r q : SlotView) (base : ℕ) → R r q → R (record r { base = base }) q × R r (record q { base = base })
 
-all_with : (P : SlotView → Type 0) (id : ℕ) (r : SlotView) (rs : List SlotView) → with_id id rs ≡ Some r → AllOf P rs → P r
+pub all_with : (P : SlotView → Type 0) (id : ℕ) (r : SlotView) (rs : List SlotView) → with_id id rs ≡ Some r → AllOf P rs → P r
 all_with P id r [] e a = absurd (none_is r e)
 all_with P id r (x ∷ xs) e a = elim (cond_is (eqb x.id id) (Some x) (with_id id xs) (Some r) e) [
   | inl y ↦ subst P (some_same x r y.1) a.0

@@ -21,7 +21,7 @@ use Rattle.gm_laws.specs.May.{May}
 use Rattle.gm_laws.specs.Ruled.{AllFreed, Follows, FollowsRules, Ruled, loosened, loosens}
 use Rattle.gm_laws.specs.Turns.{EachMay, IsNewTurn, IsTurn, onto}
 
-new_turn : (t : ℕ) (a : Actor) (w : What) (past : List Entry) → IsNewTurn t past → same_turn (by t a w) past ≡ false
+pub new_turn : (t : ℕ) (a : Actor) (w : What) (past : List Entry) → IsNewTurn t past → same_turn (by t a w) past ≡ false
 new_turn t a w [] n = refl
 new_turn t a w (d ∷ past) n = less_not d.turn t n
   where
@@ -85,7 +85,7 @@ rest_ruled o t a pre (w ∷ ws) d p past is b r f m freed =
     (subst (λ (xs : List What). is_row o.setup a xs (flat past) ≡ true) (sym (append_assoc pre (w ∷ []) ws)) r)
     (next_rules o t a w pre ws d p past is b r f m.0, f) m.1 freed
 
-no_row : (s : Setup) (a : Actor) (f : Flat) → is_row s a [] f ≡ true → ⊥
+pub no_row : (s : Setup) (a : Actor) (f : Flat) → is_row s a [] f ≡ true → ⊥
 no_row s (Vcpu v) f e = false_true e
 no_row s (Caller c) f e = false_true e
 

@@ -1,3 +1,4 @@
+pub mod BoundRanges
 pub mod Contents
 pub mod Conversion
 pub mod FlushPending
@@ -13,6 +14,7 @@ pub mod Readings
 pub mod Rows
 pub mod Ruled
 pub mod SlotsStand
+pub mod Smallest
 pub mod Stands
 pub mod TouchFrames
 pub mod TouchesNow

@@ -1,6 +1,7 @@
 //! Histories shown by computing: worked rows that follow the tables, and the histories of wrong bodies, which don't.
 
-ghost use Rattle.gm_flat.specs.Plays.{Plays};
+ghost use Rattle.std.specs.Prelude.{[]};
+ghost use Rattle.gm_flat.specs.Plays.{Full, Plays};
 ghost use Rattle.gm_flat.specs.RightHistory.{Right};
 ghost use Rattle.gm_laws.specs.Conversion.{conversion, conversion_orders};
 ghost use Rattle.gm_laws.specs.FlushPending.{flush_pending, flush_pending_orders, flush_pending_turns};
@@ -10,6 +11,7 @@ ghost use Rattle.gm_laws.specs.MoveAndDeletion.{move_and_deletion, move_and_dele
 ghost use Rattle.gm_laws.specs.OneRead.{one_read, one_read_orders, one_read_turns};
 ghost use Rattle.gm_laws.specs.PopulationAndClose.{population_and_close, population_and_close_orders};
 ghost use Rattle.gm_laws.specs.Ruled.{Ruled};
+ghost use Rattle.gm_laws.specs.Smallest.{one_caller_orders, smallest, smallest_orders};
 ghost use Rattle.gm_laws.specs.WrongBodies.{always_retries, answers_before_acked, asks_only_where_a_leaf_went, block_leaf_beside_a_change, bound_twice_orders, edges_not_renewed, exits_by_the_miss, frees_a_held_page, hole_twice_orders, keeps_old_words, leaves_the_block_leaf, looks_at_the_generation_before, never_compares, one_frame_orders, overlooks_the_last_page, resets_the_range, two_brackets_orders};
 
 /// The histories of worked rows follow the tables, so they are right.
@@ -44,4 +46,11 @@ pub fn wrong_bodies_are_refused()
 pub fn worked_rows_play_their_turns()
     ensures one_read_plays { Plays one_read_orders one_read_turns one_read }
     ensures flush_pending_plays { Plays flush_pending_orders flush_pending_turns flush_pending }
+{}
+
+/// A history is whole once each vCPU and each caller has said that it has no command left, and not before.
+pub fn whole_histories_have_everyone_gone()
+    ensures smallest_is_whole { Full smallest_orders smallest }
+    ensures nobody_gone { Full smallest_orders [] → ⊥ }
+    ensures caller_left { Full one_caller_orders smallest → ⊥ }
 {}

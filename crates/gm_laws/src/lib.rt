@@ -7,7 +7,8 @@ mod meanings;
 mod rightness;
 
 pub use examples::{
-    worked_rows_follow_the_tables, worked_rows_play_their_turns, wrong_bodies_are_refused,
+    whole_histories_have_everyone_gone, worked_rows_follow_the_tables,
+    worked_rows_play_their_turns, wrong_bodies_are_refused,
 };
 pub use meanings::{
     all_have_means_each_page, attribute_is_the_last_call, ended_is_an_end,
@@ -16,7 +17,7 @@ pub use meanings::{
     settled_is_the_greatest,
 };
 pub use rightness::{
-    count_is_begins_less_ends, frames_differ_everywhere, fronts_of_right_are_right,
-    invariant_holds, right_is_ruled, ruled_is_right, slots_stand_apart, touches_are_named_now,
-    touches_name_their_frames, turns_keep_ruled, words_are_last_written,
+    bound_ranges_lie_inside, count_is_begins_less_ends, frames_differ_everywhere,
+    fronts_of_right_are_right, invariant_holds, right_is_ruled, ruled_is_right, slots_stand_apart,
+    touches_are_named_now, touches_name_their_frames, turns_keep_ruled, words_are_last_written,
 };

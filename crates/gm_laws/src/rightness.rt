@@ -10,6 +10,7 @@ ghost use Rattle.gm_flat.specs.Words.{folio_word};
 ghost use Rattle.gm_base.specs.declared.values.Actor.{Actor};
 ghost use Rattle.gm_flat.specs.declared.entry.Entry.{Entry};
 ghost use Rattle.gm_flat.specs.declared.entry.What.{What};
+ghost use Rattle.gm_laws.specs.BoundRanges.{BoundRanges};
 ghost use Rattle.gm_laws.specs.Contents.{added_word, last_write, or_else};
 ghost use Rattle.gm_laws.specs.Invariant.{Invariant};
 ghost use Rattle.gm_laws.specs.LivesEverywhere.{LivesEverywhere};
@@ -82,4 +83,11 @@ pub fn touches_name_their_frames()
 pub fn slots_stand_apart()
     ensures now { (o : Orders) (past : List Entry) → Right o past → SlotsStand (flat past) }
     ensures before { (o : Orders) (e : Entry) (front past : List Entry) → Right o past → Stands e front past → SlotsStand (flat front) }
+{}
+
+/// At every position of a right history, also inside a turn: the indexes that a slot binds of a file in use are those of pages
+/// of that file, and two slots of one file bind none in common.
+pub fn bound_ranges_lie_inside()
+    ensures now { (o : Orders) (past : List Entry) → Right o past → BoundRanges (flat past) }
+    ensures before { (o : Orders) (e : Entry) (front past : List Entry) → Right o past → Stands e front past → BoundRanges (flat front) }
 {}
