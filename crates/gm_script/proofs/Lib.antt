@@ -1,3 +1,7 @@
-pub mod LineSplits
-pub mod Pieces
+pub mod Calls
+pub mod Digits
+pub mod Evens
+pub mod LineCuts
 pub mod Puts
+pub mod Turns
+pub mod Words

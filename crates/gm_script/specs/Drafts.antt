@@ -1,11 +1,23 @@
 -- A script as far as it was read.
+use Rattle.std.specs.Prelude.{◌≡◌, ℕ, ◌+◌, false, Result, Err}
 use Rattle.gm_script.specs.declared.draft.Draft as draft
-use Rattle.gm_script.specs.Built.{IsEven}
+use Rattle.gm_script.specs.declared.draft.Refused.{Refused}
+use Rattle.gm_script.specs.declared.draft.Refused.TheVariants.{Bad, NoMemory}
+use Rattle.gm_script.specs.declared.error.Cause.{Cause}
+use Rattle.gm_script.specs.Built.{IsEven, passes_at, command_count}
 use Rattle.gm_script.specs.Grammar.{Draft, finished_draft}
 
 -- what is kept of it
 abbrev pub draft_of : draft.Draft → Draft
-draft_of s = record { setup = s.setup; vcpus = s.vcpus.items; callers = s.callers.items; turns = s.turns.items; commands = s.commands; regions = s.regions }
+draft_of s = record { setup = s.setup; vcpus = s.vcpus.items; callers = s.callers.items; turns = s.turns.items; commands = s.commands; has_passed = s.has_passed }
 
-abbrev pub IsEvenDraft : draft.Draft → Type 0
-IsEvenDraft s = IsEven (finished_draft (draft_of s))
+-- it is a script, its commands are counted, and it is known where no call passes
+pub record IsEvenDraft (d : Draft) : Type 0 where
+  pub even : IsEven (finished_draft d)
+  pub counted : command_count d.vcpus + command_count d.callers ≡ d.commands
+  pub none_passed : d.has_passed ≡ false → (c k : ℕ) → passes_at d.setup.user d.callers c k ≡ false
+
+-- the cause is what was found; memory may be wanted at any line
+abbrev pub RefusedFor : {A : Type 0} → Result A Cause → Refused → Type 0
+RefusedFor found (Bad cause) = found ≡ Err cause
+RefusedFor found NoMemory = Unit {0}

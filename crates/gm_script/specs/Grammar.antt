@@ -1,168 +1,179 @@
--- Which bytes form a script, and which script: the forms that are read so far, with words separated by one space and
--- decimal numbers without leading zeros. (This project's own.)
-use Rattle.std.specs.Prelude.{ℕ, ◌+◌, ◌*◌, ◌/◌, ◌%◌, Bool, false, not, ◌&&◌, nat_eq, nat_lt, nat_le, List, [], ◌∷◌, ◌++◌, length, take, drop, Some, None, if◌then◌else◌, codes, slice_index_or, slice_set}
+-- Which bytes form a script, and which script; or the first bad line, with the first cause in the table's order: bytes, cut,
+-- machine, word, number, actor, align, limit, unbuilt. (This project's own.)
+use Rattle.std.specs.Prelude.{ℕ, ◌+◌, ◌*◌, ◌/◌, ◌%◌, Bool, true, false, not, ◌&&◌, ◌||◌, nat_eq, nat_lt, nat_le, List, [], ◌∷◌, ◌++◌, length, Some, None, Result, Ok, Err, if◌then◌else◌, codes, slice_index_or, slice_set}
 use Rattle.std.proofs.Common.{replicate}
 use Rattle.std.specs.declared.option.Option.{Option}
 use Rattle.gm_base.specs.Aim.{Aim}
-use Rattle.gm_base.specs.declared.values.Setup.{Setup}
-use Rattle.gm_base.specs.declared.calls.Region.{Region}
-use Rattle.gm_base.specs.declared.calls.Ioctl.TheVariants.{Region2}
-use Rattle.gm_base.specs.declared.values.Op.TheVariants.{Read}
-use Rattle.gm_base.specs.declared.values.Kind.TheVariants.{Shared}
-use Rattle.gm_base.specs.declared.values.Actor.{Actor}
-use Rattle.gm_base.specs.declared.values.Actor.TheVariants.{Vcpu, Caller}
-use Rattle.gm_base.specs.declared.script.Command.{Command}
-use Rattle.gm_base.specs.declared.script.Command.TheVariants.{Touch, Call}
-use Rattle.gm_base.specs.declared.script.Turn.{Turn}
-use Rattle.gm_base.specs.declared.script.Turn.TheVariants.{Next}
-use Rattle.gm_base.specs.declared.numbers.TheConstants.{MOST_FRAMES, MOST_USER_PAGES, MOST_VCPUS, MOST_CALLERS, MOST_COMMANDS, MOST_TURNS, SLOT_IDS, PAGE_BYTES, WORD_BYTES}
 use Rattle.gm_base.specs.Scripts.{Schedule}
-use Rattle.gm_script.specs.Split.{split_at, word_of, word_count, same_bytes}
-use Rattle.gm_script.specs.Numbers.{number_of}
+use Rattle.gm_base.specs.declared.calls.Ioctl.{Ioctl}
+use Rattle.gm_base.specs.declared.values.Kind.{Kind}
+use Rattle.gm_base.specs.declared.values.Op.{Op}
+use Rattle.gm_base.specs.declared.values.Setup.{Setup}
+use Rattle.gm_base.specs.declared.script.Command.{Command}
+use Rattle.gm_base.specs.declared.script.Command.TheVariants as command
+use Rattle.gm_base.specs.declared.script.Turn.{Turn}
+use Rattle.gm_base.specs.declared.script.Turn.TheVariants as turn
+use Rattle.gm_base.specs.declared.numbers.TheConstants.{MOST_COMMANDS, MOST_TURNS, PAGE_BYTES, WORD_BYTES}
+use Rattle.gm_ioctl.specs.Arguments.{passes}
+use Rattle.gm_script.specs.declared.error.Cause.{Cause}
+use Rattle.gm_script.specs.declared.error.Cause.TheVariants.{Bytes, Cut, Machine, Word, Number, Actor, Align, Limit, Unbuilt}
+use Rattle.gm_script.specs.declared.forms.Form.{Form}
+use Rattle.gm_script.specs.declared.orders.Order.{Order}
+use Rattle.gm_script.specs.declared.orders.Order.TheVariants.{Touch, Call, Turns, Kick, Round}
+use Rattle.gm_script.specs.Split.{same_bytes}
+use Rattle.gm_script.specs.Lines.{Line, lines_of, has_bad_byte, words_of, word_at, is_skipped}
+use Rattle.gm_script.specs.Actors.{is_known, actor_of}
+use Rattle.gm_script.specs.Forms.{form_of}
+use Rattle.gm_script.specs.Orders.{order_of}
+use Rattle.gm_script.specs.Setups.{setup_of}
+use Rattle.gm_script.specs.BuiltForms.{is_built}
+use Rattle.gm_script.specs.Rounds.{rounds_of}
 
--- a script as far as it was read
+-- a script as far as it was read: `commands` counts those of all actors, and `has_passed` says whether the call of a line
+-- passes
 pub record Draft : Type 0 where
   pub setup : Setup
   pub vcpus : List (List Command)
   pub callers : List (List Command)
   pub turns : List Turn
   pub commands : ℕ
-  pub regions : ℕ
+  pub has_passed : Bool
 
--- the number after a name
-abbrev pub field_of : List ℕ → List ℕ → Option ℕ
-field_of name word = if same_bytes (take (length name) word) name then number_of (drop (length name) word) else None
+-- at the `machine` line
+abbrev pub empty_draft : Setup → Draft
+empty_draft s = record { setup = s; vcpus = replicate s.vcpus []; callers = replicate s.callers []; turns = []; commands = 0; has_passed = false }
 
--- a number that is at most the limit
-abbrev pub at_most_of : ℕ → Option ℕ → Option ℕ
-at_most_of limit None = None
-at_most_of limit (Some n) = if nat_le n limit then Some n else None
+-- the causes of a line of a form, each for the order that it gives
 
-abbrev pub setup_with : Option ℕ → Option ℕ → Option ℕ → Option ℕ → Option Setup
-setup_with (Some f) (Some u) (Some v) (Some c) = if nat_eq v 0 then None else Some (record { frames = f; user = u; vcpus = v; callers = c; huge = false })
-setup_with (Some f) (Some u) (Some v) None = None
-setup_with (Some f) (Some u) None c = None
-setup_with (Some f) None v c = None
-setup_with None u v c = None
+-- `actor`: an actor's number isn't below the setup's count
+unfoldable pub has_actor : Setup → Order → Bool
+has_actor s (Touch vcpu kind gpa op) = nat_lt vcpu s.vcpus
+has_actor s (Call caller call) = nat_lt caller s.callers
+has_actor s (Turns actor count) = is_known s actor
+has_actor s (Kick vcpu) = nat_lt vcpu s.vcpus
+has_actor s (Round count) = true
 
--- the setup that a line tells
-abbrev pub setup_of : List ℕ → Option Setup
-setup_of line =
-    if nat_eq (word_count line) 6 && same_bytes (word_of line 0) (codes "machine") && same_bytes (word_of line 5) (codes "huge=off")
-    then setup_with (at_most_of MOST_FRAMES (field_of (codes "frames=") (word_of line 1))) (at_most_of MOST_USER_PAGES (field_of (codes "user=") (word_of line 2))) (at_most_of MOST_VCPUS (field_of (codes "vcpus=") (word_of line 3))) (at_most_of MOST_CALLERS (field_of (codes "callers=") (word_of line 4)))
-    else None
+-- `align`: the GPA of an access isn't a multiple of 8
+unfoldable pub is_aligned : Order → Bool
+is_aligned (Touch vcpu kind gpa op) = nat_eq (gpa % WORD_BYTES) 0
+is_aligned (Call caller call) = true
+is_aligned (Turns actor count) = true
+is_aligned (Kick vcpu) = true
+is_aligned (Round count) = true
 
-abbrev pub below_of : ℕ → Option ℕ → Option ℕ
-below_of limit None = None
-below_of limit (Some n) = if nat_lt n limit then Some n else None
+-- the commands of a line
+abbrev pub commands_in : Order → ℕ
+commands_in (Touch vcpu kind gpa op) = 1
+commands_in (Call caller call) = 1
+commands_in (Turns actor count) = 0
+commands_in (Kick vcpu) = 0
+commands_in (Round count) = 0
 
-abbrev pub vcpu_of : Setup → List ℕ → Option ℕ
-vcpu_of s w = below_of s.vcpus (field_of (codes "v") w)
+-- the turns of a line
+abbrev pub turns_in : Setup → Order → ℕ
+turns_in s (Touch vcpu kind gpa op) = 0
+turns_in s (Call caller call) = 0
+turns_in s (Turns actor count) = count
+turns_in s (Kick vcpu) = 1
+turns_in s (Round count) = count * (2 * s.vcpus + s.callers)
 
-abbrev pub caller_of : Setup → List ℕ → Option ℕ
-caller_of s w = below_of s.callers (field_of (codes "c") w)
+-- `limit`: the line makes the commands or turns too many
+unfoldable pub has_room : Draft → Order → Bool
+has_room d order =
+    nat_le (d.commands + commands_in order) MOST_COMMANDS && nat_le (length d.turns + turns_in d.setup order) MOST_TURNS
 
-abbrev pub actor_by : Option ℕ → Option ℕ → Option Actor
-actor_by (Some v) c = Some (Vcpu v)
-actor_by None (Some c) = Some (Caller c)
-actor_by None None = None
-
-abbrev pub actor_of : Setup → List ℕ → Option Actor
-actor_of s w = actor_by (vcpu_of s w) (caller_of s w)
-
-abbrev pub aim_of : Option ℕ → Option Aim
-aim_of None = None
-aim_of (Some gpa) = if nat_eq (gpa % WORD_BYTES) 0 then Some (record { page = gpa / PAGE_BYTES; word = gpa % PAGE_BYTES / WORD_BYTES; op = Read; kind = Shared }) else None
-
--- one more command
+-- one more command of an actor
 abbrev pub with_command : List (List Command) → ℕ → Command → List (List Command)
 with_command lists n command = slice_set lists n (slice_index_or lists n [] ++ command ∷ [])
 
-abbrev pub touch_line : Draft → Option ℕ → Option Aim → Option Draft
-touch_line d (Some v) (Some aim) = if nat_lt d.commands MOST_COMMANDS then Some (record d { vcpus = with_command d.vcpus v (Touch aim); commands = d.commands + 1 }) else None
-touch_line d (Some v) None = None
-touch_line d None aim = None
+-- the access of a guest address
+unfoldable pub aim_of : Kind → ℕ → Op → Aim
+aim_of kind gpa op = record { page = gpa / PAGE_BYTES; word = gpa % PAGE_BYTES / WORD_BYTES; op = op; kind = kind }
 
-abbrev pub turn_line : Draft → Option Actor → Option ℕ → Option Draft
-turn_line d (Some actor) (Some k) = if nat_le (length d.turns + k) MOST_TURNS then Some (record d { turns = d.turns ++ replicate k (Next actor) }) else None
-turn_line d (Some actor) None = None
-turn_line d None k = None
+-- a script with one more access, one more call, or more turns
+abbrev pub with_access : Draft → ℕ → Aim → Draft
+with_access d vcpu aim = record d { vcpus = with_command d.vcpus vcpu (command.Touch aim); commands = d.commands + 1 }
 
-abbrev pub bind_number : Option ℕ → (ℕ → Option Region) → Option Region
-bind_number None f = None
-bind_number (Some n) f = f n
+abbrev pub with_call : Draft → ℕ → Ioctl → Draft
+with_call d caller call = record d { callers = with_command d.callers caller (command.Call call); commands = d.commands + 1; has_passed = d.has_passed || passes d.setup.user call }
 
--- a region without flags that its arguments don't refuse, and whose size isn't 0
-abbrev pub region_passes : Setup → ℕ → ℕ → ℕ → ℕ → ℕ → ℕ → Bool
-region_passes s slot flags gpa size user fd =
-    nat_eq flags 0 && nat_eq (size % PAGE_BYTES) 0 && nat_eq (gpa % PAGE_BYTES) 0 && nat_eq (user % PAGE_BYTES) 0 && nat_lt (gpa + size) 18446744073709551616 && nat_le (user + size) (s.user * PAGE_BYTES) && nat_lt slot SLOT_IDS && not (nat_eq size 0) && nat_lt fd 4294967296
+abbrev pub with_turns : Draft → List Turn → Draft
+with_turns d turns = record d { turns = d.turns ++ turns }
 
-abbrev pub region_if : Setup → ℕ → ℕ → ℕ → ℕ → ℕ → ℕ → ℕ → Option Region
-region_if s slot flags gpa size user fd offset =
-    if region_passes s slot flags gpa size user fd then Some (record { slot = slot; flags = flags; gpa = gpa; size = size; user = user; fd = fd; offset = offset }) else None
+-- what a right line makes of a script
+unfoldable pub after_order : Draft → Order → Draft
+after_order d (Touch vcpu kind gpa op) = with_access d vcpu (aim_of kind gpa op)
+after_order d (Call caller call) = with_call d caller call
+after_order d (Turns actor count) = with_turns d (replicate count (turn.Next (actor_of actor)))
+after_order d (Kick vcpu) = with_turns d (turn.Kick vcpu ∷ [])
+after_order d (Round count) = with_turns d (rounds_of d.setup count)
 
--- the region that the words from the third on tell
-abbrev pub region_of : Setup → List ℕ → Option Region
-region_of s line =
-    bind_number (number_of (word_of line 2)) (λ slot. bind_number (number_of (word_of line 3)) (λ flags. bind_number (number_of (word_of line 4)) (λ gpa. bind_number (number_of (word_of line 5)) (λ size. bind_number (number_of (word_of line 6)) (λ user. bind_number (number_of (word_of line 7)) (λ fd. bind_number (number_of (word_of line 8)) (λ offset. region_if s slot flags gpa size user fd offset)))))))
+-- what an order makes of a script, or its first cause
+unfoldable pub ordered : Draft → Order → Result Draft Cause
+ordered d order =
+    if not (has_actor d.setup order) then Err Actor
+    else if not (is_aligned order) then Err Align
+    else if not (has_room d order) then Err Limit
+    else if not (is_built d.setup.user d.has_passed order) then Err Unbuilt
+    else Ok (after_order d order)
 
-abbrev pub call_line : Draft → Option ℕ → Option Region → Option Draft
-call_line d (Some c) (Some region) =
-    if nat_lt d.commands MOST_COMMANDS && nat_eq d.regions 0
-    then Some (record d { callers = with_command d.callers c (Call (Region2 region)); commands = d.commands + 1; regions = 1 }) else None
-call_line d (Some c) None = None
-call_line d None region = None
+abbrev pub numbered : Draft → Option Order → Result Draft Cause
+numbered d None = Err Number
+numbered d (Some order) = ordered d order
 
--- what a line makes of a script
-abbrev pub line_of : Draft → List ℕ → Option Draft
-line_of d line =
-    if nat_eq (word_count line) 4 && same_bytes (word_of line 1) (codes "read") && same_bytes (word_of line 2) (codes "shared")
-    then touch_line d (vcpu_of d.setup (word_of line 0)) (aim_of (number_of (word_of line 3)))
-    else if nat_eq (word_count line) 2 && same_bytes (word_of line 0) (codes "turn")
-    then turn_line d (actor_of d.setup (word_of line 1)) (Some 1)
-    else if nat_eq (word_count line) 3 && same_bytes (word_of line 0) (codes "turn")
-    then turn_line d (actor_of d.setup (word_of line 1)) (number_of (word_of line 2))
-    else if nat_eq (word_count line) 9 && same_bytes (word_of line 1) (codes "region")
-    then call_line d (caller_of d.setup (word_of line 0)) (region_of d.setup line)
-    else None
+abbrev pub formed : Draft → List (List ℕ) → Option Form → Result Draft Cause
+formed d words None = Err Word
+formed d words (Some form) = numbered d (order_of form words)
 
-abbrev pub or_none : Option Draft → (Draft → Option Draft) → Option Draft
-or_none None f = None
-or_none (Some d) f = f d
+-- a line after the `machine` line
+unfoldable pub later_line : Draft → List (List ℕ) → Result Draft Cause
+later_line d words = if same_bytes (word_at words 0) (codes "machine") then Err Machine else formed d words (form_of words)
 
--- at the last line nothing stands
-abbrev pub lines_on : List ℕ → List (List ℕ) → (Draft → Option Draft) → Draft → Option Draft
-lines_on line [] rest d = if nat_eq (length line) 0 then Some d else None
-lines_on line (next ∷ lines) rest d = or_none (line_of d line) rest
+-- the script at its `machine` line
+abbrev pub started : Result Setup Cause → Result Draft Cause
+started (Err cause) = Err cause
+started (Ok s) = Ok (empty_draft s)
 
--- the lines before the last, which is empty
-abbrev pub lines_from : List (List ℕ) → Draft → Option Draft
-lines_from [] d = None
-lines_from (line ∷ lines) d = lines_on line lines (lines_from lines) d
+-- a line that isn't skipped; before the `machine` line there is no script yet
+abbrev pub said : Option Draft → List (List ℕ) → Result Draft Cause
+said None words = started (setup_of words)
+said (Some d) words = later_line d words
 
-abbrev pub empty_draft : Setup → Draft
-empty_draft s = record { setup = s; vcpus = replicate s.vcpus []; callers = replicate s.callers []; turns = []; commands = 0; regions = 0 }
+abbrev pub going : Result Draft Cause → Result (Option Draft) Cause
+going (Err cause) = Err cause
+going (Ok d) = Ok (Some d)
 
-abbrev pub script_with : Option Setup → List (List ℕ) → Option Draft
-script_with None lines = None
-script_with (Some s) lines = lines_from lines (empty_draft s)
+-- what a line makes of a script, or its first cause
+unfoldable pub after_line : Option Draft → Line → Result (Option Draft) Cause
+after_line so_far line =
+    if has_bad_byte line.bytes then Err Bytes
+    else if not line.is_ended then Err Cut
+    else if is_skipped (words_of line.bytes) then Ok so_far
+    else going (said so_far (words_of line.bytes))
 
-abbrev pub script_by : List (List ℕ) → Option Draft
-script_by [] = None
-script_by (line ∷ lines) = script_with (setup_of line) lines
+-- the script of bytes, or the first bad line, by its number from 1, with its cause
+pub data Verdict : Type 0 where
+  Good : (script : Schedule) → Verdict
+  Bad : (line : ℕ) → (cause : Cause) → Verdict
 
 -- the script of a draft
 abbrev pub finished_draft : Draft → Schedule
 finished_draft d = record { orders = record { setup = d.setup; vcpus = d.vcpus; callers = d.callers }; turns = d.turns }
 
--- the draft that the bytes form
-abbrev pub script_of : List ℕ → Option Draft
-script_of bytes = script_by (split_at 10 bytes)
+-- after the last line; without a `machine` line that is where the script is bad
+abbrev pub at_end : ℕ → Option Draft → Verdict
+at_end number None = Bad number Machine
+at_end number (Some d) = Good (finished_draft d)
 
-abbrev pub schedule_with : Option Draft → Option Schedule
-schedule_with None = None
-schedule_with (Some d) = Some (finished_draft d)
+abbrev pub judged_on : ℕ → Result (Option Draft) Cause → (Option Draft → Verdict) → Verdict
+judged_on number (Err cause) rest = Bad number cause
+judged_on number (Ok so_far) rest = rest so_far
 
--- the script that the bytes form
-abbrev pub schedule_of : List ℕ → Option Schedule
-schedule_of bytes = schedule_with (script_of bytes)
+-- the lines from this number on
+abbrev pub judged : List Line → ℕ → Option Draft → Verdict
+judged [] number so_far = at_end number so_far
+judged (line ∷ lines) number so_far = judged_on number (after_line so_far line) (judged lines (number + 1))
+
+-- what the bytes are
+unfoldable pub script_of : List ℕ → Verdict
+script_of bytes = judged (lines_of bytes) 1 None

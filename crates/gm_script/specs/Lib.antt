@@ -1,7 +1,14 @@
+pub mod Actors
 pub mod Built
+pub mod BuiltForms
 pub mod Drafts
+pub mod Forms
 pub mod Grammar
 pub mod Kept
+pub mod Lines
 pub mod Numbers
+pub mod Orders
 pub mod Refusals
+pub mod Rounds
+pub mod Setups
 pub mod Split

@@ -1,142 +1,99 @@
 //! What a line says.
 
-ghost use Rattle.std.specs.Prelude.{◌≡◌, ◌+◌, ◌<◌, ◌≤◌, ◌^◌, length, Some, None, IfSome, OnOk, IsErrOf};
-ghost use Rattle.gm_base.specs.Scripts.{IsOf};
-ghost use Rattle.gm_script.specs.Grammar.{actor_of, aim_of, line_of, below_of, region_of, region_if};
-ghost use Rattle.gm_script.specs.Built.{IsGoodRegion};
-ghost use Rattle.gm_script.specs.Drafts.{draft_of, IsEvenDraft};
+ghost use Rattle.std.specs.Prelude.{◌≡◌, ◌+◌, Some, None, Ok, Err, IfErr, IfOk, IfSome, OnOk, MatchResult, option_map, true};
+ghost use Rattle.gm_script.specs.Lines.{words_of};
+ghost use Rattle.gm_script.specs.Grammar.{ordered, later_line, after_line, empty_draft};
+ghost use Rattle.gm_script.specs.Built.{IsWithin};
+ghost use Rattle.gm_script.specs.Drafts.{draft_of, IsEvenDraft, RefusedFor};
 
-use crate::draft::{Draft, Refused, add_call, add_touch, add_turns};
-use crate::numbers::read_number;
-use crate::setup::field;
-use crate::split::{count_words, is_word, word};
-use gm_base::{Access, Actor, Kind, Op, PAGE_BYTES, Page, Region, SLOT_IDS, Setup, WORD_BYTES};
+use crate::built::is_built;
+use crate::draft::{Draft, Refused, add_order, has_actor, has_room, is_aligned};
+use crate::error::Cause;
+use crate::forms::read_form;
+use crate::orders::{Order, read_order};
+use crate::setup::read_setup;
+use crate::split::{has_bad_byte, is_skipped, is_word, word};
+use gm_base::Setup;
 
-/// Adds what a line says to the draft.
-pub fn read_line(draft: &mut Draft, line: &[u8]) -> Result<(), Refused>
-    requires even { IsEvenDraft draft.old }
-    requires short { length line.now < 2 ^ 63 }
-    ensures ok { OnOk result (line_of (draft_of draft.old) line.now ≡ Some (draft_of draft.new)) }
-    ensures bad { IsErrOf result Refused.Bad → line_of (draft_of draft.old) line.now ≡ None }
-    ensures even { OnOk result (IsEvenDraft draft.new) }
+/// Reads a line before the `machine` line is found: its setup where it is that line, None where it is skipped, or its
+/// first cause.
+#[tactic(auto, unfolding(crate::specs::Grammar::after_line))]
+pub fn read_first(line: &[u8], is_ended: bool) -> Result<Option<Setup>, Cause>
+    ensures line { MatchResult result
+        (λ s. after_line None (record { bytes = line.now; is_ended = is_ended }) ≡ Ok (option_map empty_draft s))
+        (λ cause. after_line None (record { bytes = line.now; is_ended = is_ended }) ≡ Err cause) }
+    ensures within { IfOk result (λ s. IfSome s IsWithin) }
 {
-    let count = count_words(line);
-    if count == 4 && is_word(word(line, 1), b"read") && is_word(word(line, 2), b"shared") {
-        let v = below(draft.setup.vcpus, field(b"v", word(line, 0)));
-        let gpa = read_number(word(line, 3));
-        return add_touch(draft, v, aim(gpa));
+    if has_bad_byte(line) {
+        return Err(Cause::Bytes);
     }
-    if count == 2 && is_word(word(line, 0), b"turn") {
-        let actor = actor(draft.setup, word(line, 1));
-        return add_turns(draft, actor, Some(1));
+    if !is_ended {
+        return Err(Cause::Cut);
     }
-    if count == 3 && is_word(word(line, 0), b"turn") {
-        let actor = actor(draft.setup, word(line, 1));
-        return add_turns(draft, actor, read_number(word(line, 2)));
+    if is_skipped(line) {
+        return Ok(None);
     }
-    if count == 9 && is_word(word(line, 1), b"region") {
-        let c = below(draft.setup.callers, field(b"c", word(line, 0)));
-        let region = region(draft.setup, line);
-        return add_call(draft, c, region);
-    }
-    Err(Refused::Bad)
+    let setup = read_setup(line)?;
+    Ok(Some(setup))
 }
 
-fn aim(gpa: Option<u64>) -> Option<Access>
-    ensures { result ≡ aim_of gpa }
+/// Adds what a line after the `machine` line says.
+#[tactic(auto, unfolding(crate::specs::Grammar::after_line))]
+pub fn read_later(draft: &mut Draft, line: &[u8], is_ended: bool) -> Result<(), Refused>
+    requires { IsEvenDraft (draft_of draft.old) }
+    ensures ok { OnOk result (after_line (Some (draft_of draft.old)) (record { bytes = line.now; is_ended = is_ended }) ≡ Ok (Some (draft_of draft.new))) }
+    ensures bad { IfErr result (RefusedFor (after_line (Some (draft_of draft.old)) (record { bytes = line.now; is_ended = is_ended }))) }
 {
-    match gpa {
-        Some(gpa) => {
-            if gpa % WORD_BYTES != 0 {
-                return None;
-            }
-            match Page::new(gpa / PAGE_BYTES) {
-                Some(page) => {
-                    let within = (gpa % PAGE_BYTES) / WORD_BYTES;
-                    Some(Access::new(page, within as u16, Op::Read, Kind::Shared))
-                }
-                None => None,
-            }
-        }
-        None => None,
+    if has_bad_byte(line) {
+        return Err(Refused::Bad(Cause::Bytes));
     }
+    if !is_ended {
+        return Err(Refused::Bad(Cause::Cut));
+    }
+    if is_skipped(line) {
+        return Ok(());
+    }
+    read_words(draft, line)
 }
 
-fn below(limit: u32, number: Option<u64>) -> Option<u32>
-    ensures { result ≡ below_of limit number }
+#[tactic(auto, unfolding(crate::specs::Grammar::later_line))]
+fn read_words(draft: &mut Draft, line: &[u8]) -> Result<(), Refused>
+    requires { IsEvenDraft (draft_of draft.old) }
+    ensures ok { OnOk result (later_line (draft_of draft.old) (words_of line.now) ≡ Ok (draft_of draft.new)) }
+    ensures bad { IfErr result (RefusedFor (later_line (draft_of draft.old) (words_of line.now))) }
 {
-    match number {
-        Some(n) => {
-            if n < limit as u64 {
-                Some(n as u32)
-            } else {
-                None
-            }
-        }
-        None => None,
+    if is_word(word(line, 0), b"machine") {
+        return Err(Refused::Bad(Cause::Machine));
     }
-}
-
-fn actor(setup: Setup, text: &[u8]) -> Option<Actor>
-    ensures actor { result ≡ actor_of setup text.now }
-    ensures of { IfSome result (IsOf setup) }
-{
-    match below(setup.vcpus, field(b"v", text)) {
-        Some(v) => Some(Actor::Vcpu(v)),
-        None => match below(setup.callers, field(b"c", text)) {
-            Some(c) => Some(Actor::Caller(c)),
-            None => None,
-        },
+    let form = match read_form(line) {
+        Some(form) => form,
+        None => return Err(Refused::Bad(Cause::Word)),
+    };
+    match read_order(form, line) {
+        Some(order) => obey(draft, order),
+        None => Err(Refused::Bad(Cause::Number)),
     }
 }
 
-// The region that the words from the third on tell.
-fn region(setup: Setup, line: &[u8]) -> Option<Region>
-    ensures region { result ≡ region_of setup line.now }
-    ensures good { IfSome result (IsGoodRegion setup.user) }
+/// Adds what an order asks for, or tells its first cause.
+#[tactic(auto, unfolding(crate::specs::Grammar::ordered))]
+fn obey(draft: &mut Draft, order: Order) -> Result<(), Refused>
+    requires { IsEvenDraft (draft_of draft.old) }
+    ensures ok { OnOk result (ordered (draft_of draft.old) order ≡ Ok (draft_of draft.new)) }
+    ensures bad { IfErr result (RefusedFor (ordered (draft_of draft.old) order)) }
 {
-    let slot = read_number(word(line, 2))?;
-    let flags = read_number(word(line, 3))?;
-    let gpa = read_number(word(line, 4))?;
-    let size = read_number(word(line, 5))?;
-    let user = read_number(word(line, 6))?;
-    let fd = read_number(word(line, 7))?;
-    let offset = read_number(word(line, 8))?;
-    region_from(setup, slot, flags, gpa, size, user, fd, offset)
-}
-
-fn region_from(
-    setup: Setup,
-    slot: u64,
-    flags: u64,
-    gpa: u64,
-    size: u64,
-    user: u64,
-    fd: u64,
-    offset: u64,
-) -> Option<Region>
-    ensures region { result ≡ region_if setup slot flags gpa size user fd offset }
-    ensures good { IfSome result (IsGoodRegion setup.user) }
-{
-    let passes = flags == 0
-        && size % PAGE_BYTES == 0
-        && gpa % PAGE_BYTES == 0
-        && user % PAGE_BYTES == 0
-        && gpa as u128 + (size as u128) < 18446744073709551616
-        && user as u128 + size as u128 <= setup.user as u128 * PAGE_BYTES as u128
-        && slot < SLOT_IDS as u64
-        && size != 0
-        && fd < 4294967296;
-    if !passes {
-        return None;
+    if !has_actor(draft.setup, order) {
+        return Err(Refused::Bad(Cause::Actor));
     }
-    Some(Region {
-        slot: slot as u32,
-        flags: flags as u32,
-        gpa,
-        size,
-        user,
-        fd: fd as u32,
-        offset,
-    })
+    if !is_aligned(order) {
+        return Err(Refused::Bad(Cause::Align));
+    }
+    if !has_room(draft, order) {
+        return Err(Refused::Bad(Cause::Limit));
+    }
+    if !is_built(draft.setup.user, draft.has_passed, order) {
+        return Err(Refused::Bad(Cause::Unbuilt));
+    }
+    add_order(draft, order)?;
+    Ok(())
 }

@@ -1,20 +1,18 @@
 //! Scripts.
 
-ghost use Rattle.std.specs.Prelude.{◌≡◌, ◌+◌, ◌<◌, ◌≤◌, ◌^◌, length, Some, None, IfOk, IfErr, IsErrOf, take, drop, All};
+ghost use Rattle.std.specs.Prelude.{◌≡◌, ◌+◌, ◌<◌, ◌≤◌, ◌^◌, length, Some, None, IfOk, IfErr, All};
 ghost use Rattle.gm_base.specs.Scripts.{commands_of, IsOf, IsTurnOf};
-ghost use Rattle.gm_script.specs.Built.{IsEven};
+ghost use Rattle.gm_script.specs.Built.{IsEven, IsWithin};
 ghost use Rattle.gm_script.specs.Drafts.{draft_of, IsEvenDraft};
-ghost use Rattle.gm_script.specs.Grammar.{lines_from, script_of};
-ghost use Rattle.gm_script.specs.Refusals.{RefusedAs};
-ghost use Rattle.gm_script.specs.Grammar.{schedule_of};
-ghost use Rattle.gm_script.specs.Split.{split_at};
+ghost use Rattle.gm_script.specs.Lines.{lines_of};
+ghost use Rattle.gm_script.specs.Grammar.{Good, judged, script_of, empty_draft, finished_draft};
+ghost use Rattle.gm_script.specs.Refusals.{RefusedAs, JudgedBad};
 
 use crate::draft::{Draft, Refused, empty};
 use crate::error::{Cause, ScriptError};
-use crate::lines::read_line;
+use crate::lines::{read_first, read_later};
 use crate::lists::CommandList;
-use crate::setup::read_setup;
-use crate::split::cut;
+use crate::split::first_line;
 use gm_base::{Actor, Command, Setup, Turn};
 use std::alloc::Global;
 use std::marker::Model;
@@ -90,78 +88,105 @@ impl Script {
     }
 }
 
-/// Reads a script. `BadLine` comes exactly where the bytes form none; its line is 1 and its cause `Unbuilt`, wherever
-/// the fault stands.
+/// Reads a script. `BadLine` comes exactly where the bytes form none: it has the first bad line, numbered from 1, and in
+/// it the first cause in the order of `Cause`. A script without a `machine` line is bad at the line after its last
+/// newline. `NoMemory` is the other error.
+#[tactic(auto, using(crate::proofs::Evens::even_empty), unfolding(crate::specs::Grammar::script_of))]
 pub fn read_script(alloc: Global, bytes: &[u8]) -> Result<Script, ScriptError>
-    ensures ok { IfOk result (λ s. schedule_of bytes.now ≡ Some s) }
+    ensures ok { IfOk result (λ s. script_of bytes.now ≡ Good s) }
     ensures bad { IfErr result (RefusedAs bytes.now) }
 {
-    match read_draft(alloc, bytes) {
-        Ok(draft) => {
-            let Draft {
-                setup,
-                vcpus,
-                callers,
-                turns,
-                commands: _,
-                regions: _,
-            } = draft;
-            Ok(Script {
-                setup,
-                vcpus,
-                callers,
-                turns,
-            })
-        }
-        Err(Refused::Bad) => Err(ScriptError::BadLine {
-            line: 1,
-            cause: Cause::Unbuilt,
-        }),
-        Err(Refused::NoMemory) => Err(ScriptError::NoMemory),
-    }
+    let started = find_machine(bytes)?;
+    let draft = empty(alloc, started.setup)?;
+    let draft = read_lines(draft, started.rest, started.number)?;
+    let Draft {
+        setup,
+        vcpus,
+        callers,
+        turns,
+        commands: _,
+        has_passed: _,
+    } = draft;
+    Ok(Script {
+        setup,
+        vcpus,
+        callers,
+        turns,
+    })
 }
 
-fn read_draft(alloc: Global, bytes: &[u8]) -> Result<Draft, Refused>
-    ensures ok { IfOk result (λ s. script_of bytes.now ≡ Some (draft_of s)) }
-    ensures bad { IsErrOf result Refused.Bad → script_of bytes.now ≡ None }
-    ensures even { IfOk result (λ s. IsEvenDraft s) }
+/// The `machine` line's setup, what stands after that line, and the next line's number.
+#[derive(Drop)]
+struct Started<'a> {
+    setup: Setup,
+    rest: &'a [u8],
+    number: u64,
+}
+
+/// Reads the lines up to the `machine` line.
+#[tactic(auto, using(crate::proofs::LineCuts::no_line))]
+fn find_machine(bytes: &[u8]) -> Result<Started<'_>, ScriptError>
+    requires { length bytes.now < 2 ^ 63 }
+    ensures ok { IfOk result (λ s. judged (lines_of bytes.now) 1 None ≡ judged (lines_of s.rest.now) s.number (Some (empty_draft s.setup))) }
+    ensures bad { IfErr result (JudgedBad (judged (lines_of bytes.now) 1 None)) }
+    ensures within { IfOk result (λ s. IsWithin s.setup) }
+    ensures number { IfOk result (λ s. s.number + length s.rest.now ≤ 2 ^ 63) }
 {
-    let at = cut(bytes, 10);
-    match read_setup(&bytes[..at]) {
-        None => Err(Refused::Bad),
-        Some(setup) => {
-            if at == bytes.len() {
-                return Err(Refused::Bad);
+    let mut rest = bytes;
+    let mut number = 1;
+    while !rest.is_empty() {
+        let first = first_line(rest);
+        match read_first(first.line, first.is_ended) {
+            Ok(None) => {}
+            Ok(Some(setup)) => {
+                return Ok(Started {
+                    setup,
+                    rest: first.rest,
+                    number: number + 1,
+                });
             }
-            match empty(alloc, setup) {
-                Ok(draft) => read_lines(draft, &bytes[at + 1..]),
-                Err(_) => Err(Refused::NoMemory),
+            Err(cause) => {
+                return Err(ScriptError::BadLine {
+                    line: number,
+                    cause,
+                });
             }
         }
+        rest = first.rest;
+        number += 1;
     }
+    Err(ScriptError::BadLine {
+        line: number,
+        cause: Cause::Machine,
+    })
 }
 
-// Reads the lines after the first.
-fn read_lines(draft: Draft, bytes: &[u8]) -> Result<Draft, Refused>
-    requires even { IsEvenDraft draft }
-    requires short { length bytes.now < 2 ^ 63 }
-    ensures ok { IfOk result (λ s. lines_from (split_at 10 bytes.now) (draft_of draft) ≡ Some (draft_of s)) }
-    ensures bad { IsErrOf result Refused.Bad → lines_from (split_at 10 bytes.now) (draft_of draft) ≡ None }
-    ensures even { IfOk result (λ s. IsEvenDraft s) }
+/// Reads the lines after the `machine` line, of which the first has this number.
+#[tactic(auto, using(crate::proofs::LineCuts::no_line))]
+fn read_lines(draft: Draft, bytes: &[u8], first: u64) -> Result<Draft, ScriptError>
+    requires even { IsEvenDraft (draft_of draft) }
+    requires number { first + length bytes.now ≤ 2 ^ 63 }
+    ensures ok { IfOk result (λ s. judged (lines_of bytes.now) first (Some (draft_of draft)) ≡ Good (finished_draft (draft_of s))) }
+    ensures bad { IfErr result (JudgedBad (judged (lines_of bytes.now) first (Some (draft_of draft)))) }
+    ensures even { IfOk result (λ s. IsEvenDraft (draft_of s)) }
 {
     let mut read = draft;
     let mut rest = bytes;
-    loop {
-        let at = cut(rest, 10);
-        if at >= rest.len() {
-            if rest.is_empty() {
-                return Ok(read);
+    let mut number = first;
+    while !rest.is_empty() {
+        let next = first_line(rest);
+        match read_later(&mut read, next.line, next.is_ended) {
+            Ok(()) => {}
+            Err(Refused::Bad(cause)) => {
+                return Err(ScriptError::BadLine {
+                    line: number,
+                    cause,
+                });
             }
-            return Err(Refused::Bad);
+            Err(Refused::NoMemory) => return Err(ScriptError::NoMemory),
         }
-        match read_line(&mut read, &rest[..at]) {
-            Ok(()) => rest = &rest[at + 1..],
-            Err(refused) => return Err(refused),
-        }
+        rest = next.rest;
+        number += 1;
     }
+    Ok(read)
 }

@@ -1,74 +1,126 @@
-//! The first line.
+//! The `machine` line.
 
-ghost use Rattle.std.specs.Prelude.{◌≡◌, ◌<◌, ◌^◌, length};
-ghost use Rattle.gm_script.specs.Grammar.{field_of, at_most_of, setup_of};
+ghost use Rattle.std.specs.Prelude.{◌≡◌, IfOk, Ok, drop, true, false};
+ghost use Rattle.gm_script.specs.Lines.{words_of, word_at};
+ghost use Rattle.gm_script.specs.Numbers.{number_of};
+ghost use Rattle.gm_script.specs.Setups.{is_machine, huge_of, counts_of, is_within, built_setup, setup_of};
+ghost use Rattle.gm_script.specs.Built.{IsWithin};
 
+use crate::error::Cause;
 use crate::numbers::read_number;
-use crate::split::{count_words, is_word, word};
+use crate::split::{begins, count_words, is_word, word};
 use gm_base::{MOST_CALLERS, MOST_FRAMES, MOST_USER_PAGES, MOST_VCPUS, Setup};
 
-/// The number after a name.
-pub fn field(name: &[u8], word: &[u8]) -> Option<u64>
-    ensures { result ≡ field_of name.now word.now }
-{
-    if word.len() < name.len() || !is_word(&word[..name.len()], name) {
-        return None;
-    }
-    read_number(&word[name.len()..])
+/// The numbers of the line, as they were given.
+#[derive(Clone, Copy, Debug, PartialEq, Eq)]
+pub struct Counts {
+    pub frames: u64,
+    pub user: u64,
+    pub vcpus: u64,
+    pub callers: u64,
 }
 
-fn small_field(name: &[u8], word: &[u8], limit: u32) -> Option<u32>
-    ensures { result ≡ at_most_of limit (field_of name.now word.now) }
+/// The setup that the first line that isn't skipped tells, or its first cause.
+#[tactic(auto, unfolding(crate::specs::Setups::setup_of))]
+pub fn read_setup(line: &[u8]) -> Result<Setup, Cause>
+    ensures setup { result ≡ setup_of (words_of line.now) }
+    ensures within { IfOk result IsWithin }
 {
-    match field(name, word) {
-        Some(n) => {
-            if n <= limit as u64 {
-                Some(n as u32)
-            } else {
-                None
-            }
-        }
-        None => None,
+    if !is_machine(line) {
+        return Err(Cause::Machine);
     }
+    let huge = match read_huge(word(line, 5)) {
+        Some(huge) => huge,
+        None => return Err(Cause::Word),
+    };
+    let counts = match read_counts(line) {
+        Some(counts) => counts,
+        None => return Err(Cause::Number),
+    };
+    if !is_within(counts) {
+        return Err(Cause::Limit);
+    }
+    if huge {
+        return Err(Cause::Unbuilt);
+    }
+    Ok(setup_of_counts(counts))
 }
 
-/// The setup that a line tells.
-pub fn read_setup(line: &[u8]) -> Option<Setup>
-    requires { length line.now < 2 ^ 63 }
-    ensures { result ≡ setup_of line.now }
+#[tactic(auto, unfolding(crate::specs::Setups::is_machine))]
+fn is_machine(line: &[u8]) -> bool
+    ensures { result ≡ is_machine (words_of line.now) }
 {
-    if count_words(line) != 6
-        || !is_word(word(line, 0), b"machine")
-        || !is_word(word(line, 5), b"huge=off")
-    {
-        return None;
+    count_words(line) == 6
+        && is_word(word(line, 0), b"machine")
+        && begins(b"frames=", word(line, 1))
+        && begins(b"user=", word(line, 2))
+        && begins(b"vcpus=", word(line, 3))
+        && begins(b"callers=", word(line, 4))
+        && begins(b"huge=", word(line, 5))
+}
+
+#[tactic(auto, unfolding(crate::specs::Setups::huge_of))]
+fn read_huge(word: &[u8]) -> Option<bool>
+    ensures { result ≡ huge_of word.now }
+{
+    if is_word(word, b"huge=on") {
+        return Some(true);
     }
-    let frames = small_field(b"frames=", word(line, 1), MOST_FRAMES);
-    let user = small_field(b"user=", word(line, 2), MOST_USER_PAGES);
-    let vcpus = small_field(b"vcpus=", word(line, 3), MOST_VCPUS);
-    let callers = small_field(b"callers=", word(line, 4), MOST_CALLERS);
-    match frames {
-        Some(frames) => match user {
-            Some(user) => match vcpus {
-                Some(vcpus) => match callers {
-                    Some(callers) => {
-                        if vcpus == 0 {
-                            return None;
-                        }
-                        Some(Setup {
-                            frames,
-                            user,
-                            vcpus,
-                            callers,
-                            huge: false,
-                        })
-                    }
-                    None => None,
-                },
-                None => None,
-            },
-            None => None,
-        },
-        None => None,
+    if is_word(word, b"huge=off") {
+        return Some(false);
+    }
+    None
+}
+
+/// The number after a name of so many bytes.
+fn number_from(word: &[u8], at: usize) -> Option<u64>
+    ensures { result ≡ number_of (drop at word.now) }
+{
+    if at > word.len() {
+        return read_number(&word[word.len()..]);
+    }
+    read_number(&word[at..])
+}
+
+#[tactic(auto, unfolding(crate::specs::Setups::counts_of))]
+fn read_counts(line: &[u8]) -> Option<Counts>
+    ensures { result ≡ counts_of (words_of line.now) }
+{
+    let frames = number_from(word(line, 1), 7)?;
+    let user = number_from(word(line, 2), 5)?;
+    let vcpus = number_from(word(line, 3), 6)?;
+    let callers = number_from(word(line, 4), 8)?;
+    Some(Counts {
+        frames,
+        user,
+        vcpus,
+        callers,
+    })
+}
+
+#[tactic(auto, unfolding(crate::specs::Setups::is_within))]
+fn is_within(counts: Counts) -> bool
+    ensures { result ≡ is_within counts }
+{
+    counts.frames <= u64::from(MOST_FRAMES)
+        && counts.user <= u64::from(MOST_USER_PAGES)
+        && counts.vcpus != 0
+        && counts.vcpus <= u64::from(MOST_VCPUS)
+        && counts.callers <= u64::from(MOST_CALLERS)
+}
+
+/// The setup with these numbers.
+#[tactic(auto, unfolding(crate::specs::Setups::is_within))]
+fn setup_of_counts(counts: Counts) -> Setup
+    requires { is_within counts ≡ true }
+    ensures setup { Ok result ≡ built_setup false counts }
+    ensures within { IsWithin result }
+{
+    Setup {
+        frames: counts.frames as u32,
+        user: counts.user as u32,
+        vcpus: counts.vcpus as u32,
+        callers: counts.callers as u32,
+        huge: false,
     }
 }

@@ -1,0 +1,42 @@
+-- The one table of what is built: right lines that ask for something else have the cause `unbuilt`. The `machine` line with
+-- huge=on is one of them too (Setups).
+use Rattle.std.specs.Prelude.{ℕ, Bool, true, false, not, ◌&&◌, ◌||◌, nat_eq}
+use Rattle.gm_base.specs.Values.{same_kind}
+use Rattle.gm_base.specs.declared.calls.Ioctl.{Ioctl}
+use Rattle.gm_base.specs.declared.calls.Ioctl.TheVariants.{Create, Region2, Attrs, Punch, Allocate, Close, Populate, Poke, Peek}
+use Rattle.gm_base.specs.declared.calls.Region.{Region}
+use Rattle.gm_base.specs.declared.numbers.TheConstants.{KVM_MEM_READONLY}
+use Rattle.gm_base.specs.declared.values.Kind.TheVariants.{Shared}
+use Rattle.gm_base.specs.declared.values.Op.{Op}
+use Rattle.gm_base.specs.declared.values.Op.TheVariants.{Read, Write}
+use Rattle.gm_ioctl.specs.Arguments.{passes}
+use Rattle.gm_script.specs.declared.orders.Order.{Order}
+use Rattle.gm_script.specs.declared.orders.Order.TheVariants.{Touch, Call, Turns, Kick, Round}
+
+abbrev pub is_read : Op → Bool
+is_read Read = true
+is_read (Write value) = false
+
+-- a region without a file, whose size isn't 0
+unfoldable pub is_plain_region : Region → Bool
+is_plain_region r = (nat_eq r.flags 0 || nat_eq r.flags KVM_MEM_READONLY) && not (nat_eq r.size 0)
+
+abbrev pub is_plain : Ioctl → Bool
+is_plain (Region2 r) = is_plain_region r
+is_plain (Create size flags) = false
+is_plain (Attrs address size attributes flags) = false
+is_plain (Punch fd offset length) = false
+is_plain (Allocate fd offset length) = false
+is_plain (Close fd) = false
+is_plain (Populate gpa pages user) = false
+is_plain (Poke address value) = false
+is_plain (Peek address) = false
+
+-- Shared reads; each call that its arguments refuse, and the first call that passes where it is a plain region; all turns.
+-- `has_passed` says whether a call of an earlier line passes.
+unfoldable pub is_built : ℕ → Bool → Order → Bool
+is_built user has_passed (Touch vcpu kind gpa op) = same_kind kind Shared && is_read op
+is_built user has_passed (Call caller call) = not (passes user call) || (not has_passed && is_plain call)
+is_built user has_passed (Turns actor count) = true
+is_built user has_passed (Kick vcpu) = true
+is_built user has_passed (Round count) = true
