@@ -1,0 +1,3 @@
+pub mod Caching
+pub mod Meeting
+pub mod Sharing
