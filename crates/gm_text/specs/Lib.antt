@@ -1,2 +1,3 @@
+pub mod InTypes
 pub mod Pieces
 pub mod Text

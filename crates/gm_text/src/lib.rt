@@ -22,10 +22,12 @@ mod calls;
 mod effects;
 mod entries;
 mod history;
+mod laws;
 mod pieces;
 mod words;
 
 pub use history::{write_entry, write_history};
+pub use laws::one_text;
 pub use pieces::{Piece, put_pieces};
 
 #[cfg(test)]
