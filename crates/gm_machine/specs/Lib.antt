@@ -1,6 +1,9 @@
-pub mod Fits
 pub mod Flags
 pub mod Kept
+pub mod Plans
 pub mod Played
 pub mod Settled
+pub mod Stands
 pub mod Steps
+pub mod Ties
+pub mod Views

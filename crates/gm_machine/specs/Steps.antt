@@ -1,11 +1,15 @@
 -- What a step of a machine does, as contracts see it.
-use Rattle.std.specs.Prelude.{◌≡◌, ◌≢◌, ℕ, ◌+◌, true, false, List, [], ◌∷◌, ◌++◌, length}
+use Rattle.std.specs.Prelude.{◌≡◌, ℕ, ◌+◌, Bool, true, false, List, length}
 use Rattle.gm_base.specs.Scripts.{Orders}
 use Rattle.gm_base.specs.declared.values.Actor.{Actor}
 use Rattle.gm_base.specs.declared.values.Actor.TheVariants.{Vcpu, Caller}
 use Rattle.gm_flat.specs.Histories.{gone}
+use Rattle.gm_flat.specs.Mappings.{pending}
+use Rattle.gm_flat.specs.RightHistory.{Right}
+use Rattle.gm_flat.specs.RightOrder.{IsBlocked}
 use Rattle.gm_flat.specs.declared.entry.Entry.{Entry}
 use Rattle.gm_machine.specs.Flags.{Flags, no_flags}
+use Rattle.gm_machine.specs.Settled.{TookTurn}
 use Rattle.gm_machine.specs.declared.outcome.How.{How}
 use Rattle.gm_machine.specs.declared.outcome.How.TheVariants.{Next, Kick}
 use Rattle.gm_machine.specs.declared.outcome.Outcome.{Outcome}
@@ -23,42 +27,50 @@ abbrev pub IsVcpu : Actor → Type 0
 IsVcpu (Vcpu v) = Unit {0}
 IsVcpu (Caller c) = ⊥
 
--- the entry is the actor's, in that turn
-pub record IsBy (actor : Actor) (turn : ℕ) (e : Entry) : Type 0 where
-  pub actor_is : e.actor ≡ actor
-  pub turn_is : e.turn ≡ turn
-
-abbrev pub AreBy : Actor → ℕ → List Entry → Type 0
-AreBy actor turn [] = Unit {0}
-AreBy actor turn (e ∷ entries) = IsBy actor turn e × AreBy actor turn entries
-
--- entries of the actor's turn came, at least one, and nothing else
-pub record IsTurn (actor : Actor) (turn : ℕ) (old new : List Entry) : Type 0 where
-  pub entries : List Entry
-  pub past : new ≡ entries ++ old
-  pub some : entries ≢ []
-  pub own : AreBy actor turn entries
-
--- the turn was taken: its entries came, it is counted, and the room is used up
-pub record Moves (old new : Seen) (actor : Actor) : Type 0 where
+-- the turn of the tables came and nothing else, the history is right, the turn is counted, and the room is used up
+pub record Moves (old new : Seen) (actor : Actor) (kick : Bool) : Type 0 where
   pub orders : new.orders ≡ old.orders
-  pub turn : IsTurn actor (old.turns + 1) old.past new.past
+  pub turn : TookTurn old.orders (old.turns + 1) actor kick old.past new.past
+  pub right : Right new.orders new.past
   pub turns : new.turns ≡ old.turns + 1
   pub room : new.room ≡ no_flags (length old.room.vcpus) (length old.room.callers)
-  pub present : gone actor old.past ≡ false
 
--- nothing was done, since the actor is gone
+-- of an actor that hasn't written `gone` and waits for nobody
+pub record Goes (old new : Seen) (actor : Actor) : Type 0 where
+  pub present : gone actor old.past ≡ false
+  pub unblocked : IsBlocked old.orders actor old.past → ⊥
+  pub moves : Moves old new actor false
+
+-- nothing was done, since the actor has written `gone`
 pub record Rests (old new : Seen) (actor : Actor) : Type 0 where
   pub same : new ≡ old
   pub absent : gone actor old.past ≡ true
 
--- by the outcome: what is built so far never waits, and a kick finds no flush pending
+-- a kick of a vCPU with a flush pending
+pub record Kicks (old new : Seen) (v : ℕ) : Type 0 where
+  pub was_pending : pending v old.past ≡ true
+  pub moves : Moves old new (Vcpu v) true
+
+-- nothing was done, since no flush of the vCPU is pending
+pub record Spares (old new : Seen) (v : ℕ) : Type 0 where
+  pub same : new ≡ old
+  pub none_pending : pending v old.past ≡ false
+
+abbrev pub KickMoves : Seen → Seen → Actor → Type 0
+KickMoves old new (Vcpu v) = Kicks old new v
+KickMoves old new (Caller c) = ⊥
+
+abbrev pub KickSpares : Seen → Seen → Actor → Type 0
+KickSpares old new (Vcpu v) = Spares old new v
+KickSpares old new (Caller c) = ⊥
+
+-- by the outcome: what is built so far never waits, since each call is answered in its turn
 abbrev pub StepsTo : Seen → Seen → Actor → How → Outcome → Type 0
-StepsTo old new actor Next Moved = Moves old new actor
+StepsTo old new actor Next Moved = Goes old new actor
 StepsTo old new actor Next Done = Rests old new actor
-StepsTo old new actor Kick Nothing = new ≡ old
+StepsTo old new actor Kick Moved = KickMoves old new actor
+StepsTo old new actor Kick Nothing = KickSpares old new actor
 StepsTo old new actor Next Nothing = ⊥
 StepsTo old new actor Next (Waits blocker) = ⊥
-StepsTo old new actor Kick Moved = ⊥
 StepsTo old new actor Kick Done = ⊥
 StepsTo old new actor Kick (Waits blocker) = ⊥

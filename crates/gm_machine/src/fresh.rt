@@ -3,17 +3,17 @@
 ghost use Rattle.std.specs.Prelude.{◌≡◌, ◌+◌, ◌<◌, ◌≤◌, [], length, IfOk, replicate};
 ghost use Rattle.gm_script.specs.Built.{IsEven};
 ghost use Rattle.gm_machine.specs.Flags.{no_flags};
-ghost use Rattle.gm_machine.specs.Fits.{Fits};
-ghost use Rattle.gm_machine.specs.Settled.{orders_of};
+ghost use Rattle.gm_machine.specs.Settled.{Settled};
+ghost use Rattle.gm_machine.specs.Views.{orders_of, values_of};
 
 use crate::flags::ActorFlags;
-use crate::leaves::Leaves;
+use crate::log::Log;
 use crate::parts::Parts;
-use crate::slots::SlotList;
-use crate::standing::Phase;
 use gm_base::NoMemory;
+use gm_fault::Ticket;
+use gm_mmu::Mmu;
 use gm_script::{CommandList, Script};
-use gm_tlb::Tlb;
+use gm_slots::Slots;
 use gm_words::Bank;
 use std::alloc::Global;
 
@@ -24,17 +24,6 @@ fn copies(alloc: Global, lists: &[CommandList]) -> Result<Vec<CommandList>, NoMe
     for list in lists {
         let copy = list.copied(alloc)?;
         made.push(copy)?;
-    }
-    Ok(made)
-}
-
-fn empty_buffers(alloc: Global, count: u32) -> Result<Vec<Tlb>, NoMemory>
-    ensures { IfOk result (λ v. v.items ≡ replicate count []) }
-{
-    let mut made = Vec::new(alloc);
-    for k in 0..count {
-        let buffer = Tlb::new(alloc)?;
-        made.push(buffer)?;
     }
     Ok(made)
 }
@@ -51,16 +40,19 @@ fn repeated<T: Copy>(alloc: Global, value: T, count: u32) -> Result<Vec<T>, NoMe
 
 /// The parts at the start: no slot, no leaf, user memory zero, every vCPU outside.
 pub fn fresh(alloc: Global, script: &Script) -> Result<Parts, NoMemory>
-    ensures fits { IfOk result Fits }
-    ensures orders { IfOk result (λ parts. orders_of parts ≡ script.now.orders) }
-    ensures gone { IfOk result (λ parts. parts.gone ≡ no_flags script.now.orders.setup.vcpus script.now.orders.setup.callers) }
+    ensures settled { IfOk result (λ parts. Settled (values_of parts) 1) }
+    ensures orders { IfOk result (λ parts. orders_of (values_of parts) ≡ script.now.orders) }
+    ensures past { IfOk result (λ parts. parts.log.past ≡ []) }
 {
     let setup = script.setup();
     let vcpus = copies(alloc, script.vcpus())?;
     let callers = copies(alloc, script.callers())?;
+    let log = Log::new(alloc);
+    let mmu = Mmu::new(alloc, setup.vcpus)?;
+    let slots = Slots::new(alloc)?;
     let user = Bank::new(alloc, setup.user)?;
-    let phases = repeated(alloc, Phase::Outside, setup.vcpus)?;
-    let buffers = empty_buffers(alloc, setup.vcpus)?;
+    let no_fault: Option<Ticket> = None;
+    let faults = repeated(alloc, no_fault, setup.vcpus)?;
     let ended = repeated(alloc, 0usize, setup.vcpus)?;
     let answered = repeated(alloc, 0usize, setup.callers)?;
     let gone = ActorFlags::new(alloc, setup.vcpus, setup.callers)?;
@@ -68,11 +60,11 @@ pub fn fresh(alloc: Global, script: &Script) -> Result<Parts, NoMemory>
         setup,
         vcpus,
         callers,
-        slots: SlotList::new(alloc, setup.user),
-        leaves: Leaves::new(alloc, setup.user),
+        log,
+        mmu,
+        slots,
         user,
-        phases,
-        buffers,
+        faults,
         ended,
         answered,
         gone,

@@ -2,20 +2,20 @@
 #![tactic(auto)]
 
 mod caller_turns;
+mod counts;
+mod faults;
 mod flags;
 mod fresh;
-mod leaves;
+mod judged;
+mod laws;
 mod log;
 mod machine;
 mod outcome;
 mod parts;
-mod slots;
-mod standing;
+mod touches;
 mod turns;
 mod vcpu_turns;
 
+pub use laws::turns_play;
 pub use machine::Machine;
 pub use outcome::{Blocker, How, Outcome};
-
-#[cfg(test)]
-mod tests;

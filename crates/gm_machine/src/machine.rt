@@ -2,27 +2,32 @@
 
 ghost use Rattle.std.specs.Prelude.{◌≡◌, ◌+◌, ◌-◌, ◌^◌, ◌<◌, ◌≤◌, true, false, [], length, reverse, OnOk, OnErr, IfOk};
 ghost use Rattle.gm_base.specs.Scripts.{IsOf};
+ghost use Rattle.gm_base.specs.declared.values.Actor.TheVariants.{Vcpu, Caller};
 ghost use Rattle.gm_flat.specs.Histories.{gone};
+ghost use Rattle.gm_flat.specs.Mappings.{pending};
+ghost use Rattle.gm_flat.specs.RightHistory.{Right};
+ghost use Rattle.gm_laws.specs.Turns.{IsNewTurn};
 ghost use Rattle.gm_machine.specs.Flags.{flag_of, with_flag, no_flags};
+ghost use Rattle.gm_machine.specs.Settled.{IsRoomy, KicksTo, Settled};
 ghost use Rattle.gm_machine.specs.Steps.{IsVcpu, StepsTo};
+ghost use Rattle.gm_machine.specs.Views.{values_of};
 
 use crate::flags::ActorFlags;
 use crate::fresh::fresh;
-use crate::log::Log;
 use crate::outcome::{How, Outcome};
 use crate::parts::Parts;
 use crate::turns::take_turn;
+use crate::vcpu_turns::kick;
 use gm_base::{Actor, NoMemory, Setup};
 use gm_flat::Entry;
 use gm_script::Script;
 use std::alloc::Global;
 use std::marker::Model;
 
-/// The core and the history of its turns.
+/// The core and the history of its turns, which is right.
 #[derive(Drop)]
 pub struct Machine {
     parts: Parts,
-    log: Log,
     turns: u64,
     room: ActorFlags,
 }
@@ -32,11 +37,13 @@ impl Model for Machine {
 
     ghost Value = { Seen };
 
-    ghost use Rattle.gm_machine.specs.Settled.{orders_of, Settled};
+    ghost use Rattle.std.specs.Prelude.{◌+◌};
+    ghost use Rattle.gm_machine.specs.Settled.{Settled, RoomIsKept};
+    ghost use Rattle.gm_machine.specs.Views.{orders_of, values_of};
 
-    ghost view = { λ m. record { orders = orders_of m.parts; past = m.log.past; turns = m.turns; room = m.room } };
+    ghost view = { λ m. record { orders = orders_of (values_of m.parts); past = m.parts.log.past; turns = m.turns; room = m.room } };
 
-    ghost invariant = { λ m. Settled m.parts m.log m.room };
+    ghost invariant = { λ m. Settled (values_of m.parts) (m.turns + 1) × RoomIsKept m.parts m.room };
 }
 
 impl Machine {
@@ -49,7 +56,6 @@ impl Machine {
         let room = ActorFlags::new(alloc, setup.vcpus, setup.callers)?;
         Ok(Machine {
             parts,
-            log: Log::new(alloc),
             turns: 0,
             room,
         })
@@ -63,9 +69,8 @@ impl Machine {
         ensures room { OnOk result (flag_of self.new.room actor ≡ true) }
         ensures err { OnErr result (self.new ≡ self.old) }
     {
-        self.log.reserve(3)?;
-        self.parts.slots.reserve()?;
-        self.parts.leaves.reserve()?;
+        self.parts.log.reserve(3)?;
+        self.parts.mmu.reserve()?;
         self.room.set(actor);
         Ok(())
     }
@@ -87,9 +92,8 @@ impl Machine {
         ensures { StepsTo self.old self.new actor how result }
     {
         match how {
-            How::Kick => Outcome::Nothing,
             How::Next => {
-                if take_turn(&mut self.parts, &mut self.log, self.turns + 1, actor) {
+                if take_turn(&mut self.parts, self.turns + 1, actor) {
                     self.turns += 1;
                     self.room.clear();
                     Outcome::Moved
@@ -97,6 +101,18 @@ impl Machine {
                     Outcome::Done
                 }
             }
+            How::Kick => match actor {
+                Actor::Vcpu(v) => {
+                    if kick(&mut self.parts, self.turns + 1, v) {
+                        self.turns += 1;
+                        self.room.clear();
+                        Outcome::Moved
+                    } else {
+                        Outcome::Nothing
+                    }
+                }
+                Actor::Caller(_) => unreachable!(),
+            },
         }
     }
 
@@ -116,11 +132,21 @@ impl Machine {
         self.parts.gone.has(actor)
     }
 
-    /// The history, the oldest entry first.
-    pub fn history(&self) -> &[Entry]
-        ensures { self.now.past ≡ reverse result.now }
+    /// Whether a flush of the vCPU, which must be one of the setup's, is pending.
+    pub fn flush_pending(&self, vcpu: u32) -> bool
+        requires { vcpu < self.now.orders.setup.vcpus }
+        ensures { result ≡ pending vcpu self.now.past }
     {
-        self.log.entries()
+        self.parts.mmu.pending(vcpu)
+    }
+
+    /// The history, the oldest entry first. It is right, and turns after it have greater numbers.
+    pub fn history(&self) -> &[Entry]
+        ensures history { self.now.past ≡ reverse result.now }
+        ensures right { Right self.now.orders self.now.past }
+        ensures counted { IsNewTurn (self.now.turns + 1) self.now.past }
+    {
+        self.parts.log.entries()
     }
 
     /// How many turns were taken or counted.

@@ -1,304 +1,163 @@
-//! The turns of vCPUs.
+//! The turns of vCPUs, and kicks.
 
-ghost use Rattle.std.specs.Prelude.{◌≡◌, ◌+◌, ◌<◌, ◌≤◌, IfSome, IfNone, true, false};
+ghost use Rattle.std.specs.Prelude.{◌≡◌, ◌+◌, ◌<◌, ◌≤◌, ◌∷◌, Some, None, true, false};
 ghost use Rattle.gm_base.specs.declared.values.Actor.TheVariants.{Vcpu};
-ghost use Rattle.gm_machine.specs.Flags.{flag_of};
-ghost use Rattle.gm_machine.specs.Kept.{IsInUser};
-ghost use Rattle.gm_machine.specs.Fits.{Fits, TicketFits, LookFits, BackingFits, ServedFits, Turned, TurnsTo};
+ghost use Rattle.gm_flat.specs.Histories.{NoFault, fault, gone};
+ghost use Rattle.gm_flat.specs.Mappings.{inside, pending};
+ghost use Rattle.gm_flat.specs.RightOrder.{IsWaiting, next_command};
+ghost use Rattle.gm_machine.specs.Settled.{IsRoomy, KicksTo, Settled, Turned, TurnsTo};
+ghost use Rattle.gm_machine.specs.Stands.{IsNextAccess, Stands};
+ghost use Rattle.gm_machine.specs.Views.{orders_of, values_of};
 
-use crate::parts::{
-    Parts, end_access, fill_buffer, install_leaf, leave, next_access, stand, write_word,
-};
-use crate::standing::Phase;
-use gm_base::{Access, Actor, Command, KVM_MEM_READONLY, Kind, Leaf, Level, Op, Place};
-use gm_fault::{Route, Ticket, decide};
-use gm_flat::{Backing, Exit, Looked, Sampled, SlotView, What};
-use gm_tlb::Fill;
+use crate::faults::turn_faulting;
+use crate::parts::Parts;
+use crate::touches::turn_inside;
+use gm_base::{Access, Actor, Command};
+use gm_flat::{Entry, What};
 
-// What serves an access: a fill of the buffer, or a leaf.
-enum Served {
-    Fill(Fill),
-    Walk(Fill),
-    Nothing,
-}
-
-/// Takes the vCPU's next turn, whose entry stands at the position, and tells the entry. None exactly where the vCPU
-/// is gone; nothing changes then.
-pub fn vcpu_turn(parts: &mut Parts, v: u32, at: u64) -> Option<What>
-    requires fits { Fits parts.old }
+/// Takes the vCPU's next turn under this number. Answers whether it wrote entries: exactly where the vCPU hasn't written
+/// `gone`.
+pub fn vcpu_turn(parts: &mut Parts, turn: u64, v: u32) -> bool
+    requires settled { Settled (values_of parts.old) turn }
     requires actor { v < parts.old.setup.vcpus }
-    requires room { 0 < parts.old.leaves.spare }
-    ensures { TurnsTo parts.old parts.new (Vcpu v) result }
+    requires room { IsRoomy parts.old }
+    ensures { TurnsTo parts.old parts.new turn (Vcpu v) result }
 {
     if parts.gone.has(Actor::Vcpu(v)) {
-        return None;
+        return false;
     }
-    match parts.phases[v as usize] {
-        Phase::Outside => Some(turn_outside(parts, v)),
-        Phase::Inside => Some(turn_inside(parts, v, at)),
-        Phase::Faulting(ticket) => Some(turn_faulting(parts, v, ticket, at)),
+    match parts.faults[v as usize] {
+        Some(ticket) => turn_faulting(parts, turn, v, ticket),
+        None => turn_waiting(parts, turn, v),
     }
+    true
 }
 
-fn end(parts: &mut Parts, v: u32) -> What
-    requires fits { Fits parts.old }
+/// Writes `flush` where a flush of the vCPU is pending, and answers whether one was.
+pub fn kick(parts: &mut Parts, turn: u64, v: u32) -> bool
+    requires settled { Settled (values_of parts.old) turn }
     requires actor { v < parts.old.setup.vcpus }
-    ensures { Turned parts.old parts.new (Vcpu v) result }
+    requires room { IsRoomy parts.old }
+    ensures { KicksTo parts.old parts.new turn v result }
 {
-    leave(parts, Actor::Vcpu(v));
-    What::Gone
-}
-
-fn turn_outside(parts: &mut Parts, v: u32) -> What
-    requires fits { Fits parts.old }
-    requires actor { v < parts.old.setup.vcpus }
-    ensures { Turned parts.old parts.new (Vcpu v) result }
-{
-    match next_access(parts, v) {
-        Some(_) => {
-            stand(parts, v, Phase::Inside);
-            What::Enter
-        }
-        None => end(parts, v),
+    if parts.mmu.pending(v) {
+        flush(parts, turn, v);
+        true
+    } else {
+        false
     }
 }
 
-fn turn_inside(parts: &mut Parts, v: u32, at: u64) -> What
-    requires fits { Fits parts.old }
-    requires actor { v < parts.old.setup.vcpus }
-    ensures { Turned parts.old parts.new (Vcpu v) result }
+/// The vCPU's first access that isn't ended.
+pub fn next_access(parts: &Parts, v: u32) -> Option<Access>
+    requires stands { Stands (values_of parts.now) }
+    requires actor { v < parts.now.setup.vcpus }
+    ensures { IsNextAccess (orders_of (values_of parts.now)) v parts.now.log.past result }
 {
-    match next_access(parts, v) {
+    let commands = &parts.vcpus[v as usize];
+    match commands.get(parts.ended[v as usize]) {
         Some(command) => match command {
-            Command::Touch(access) => run_inside(parts, v, access, at),
+            Command::Touch(access) => Some(access),
             Command::Call(_) => unreachable!(),
         },
-        None => end(parts, v),
+        None => None,
     }
 }
 
-// A touch where something serves the access, else a miss.
-fn run_inside(parts: &mut Parts, v: u32, access: Access, at: u64) -> What
-    requires fits { Fits parts.old }
+// The turn of a vCPU without a fault in flight.
+fn turn_waiting(parts: &mut Parts, turn: u64, v: u32)
+    requires settled { Settled (values_of parts.old) turn }
     requires actor { v < parts.old.setup.vcpus }
-    ensures { Turned parts.old parts.new (Vcpu v) result }
+    requires room { IsRoomy parts.old }
+    requires present { gone (Vcpu v) parts.old.log.past ≡ false }
+    requires no_fault { fault v parts.old.log.past ≡ NoFault }
+    ensures { Turned (values_of parts.old) (values_of parts.new) turn (Vcpu v) false }
 {
-    match serving(parts, v, access, at) {
-        Served::Fill(fill) => touch(parts, v, access, fill),
-        Served::Walk(fill) => {
-            fill_buffer(parts, v, fill);
-            touch(parts, v, access, fill)
-        }
-        Served::Nothing => {
-            let ticket = Ticket {
-                access,
-                sampled: None,
-                looked: None,
-                backing: None,
-            };
-            stand(parts, v, Phase::Faulting(ticket));
-            What::Miss { access }
-        }
-    }
-}
-
-// The latest fill that serves, else the leaf that does, for a fill at this position.
-fn serving(parts: &Parts, v: u32, access: Access, at: u64) -> Served
-    requires fits { Fits parts.now }
-    requires actor { v < parts.now.setup.vcpus }
-    ensures { ServedFits parts.now.setup.user result }
-{
-    let buffer = &parts.buffers[v as usize];
-    match buffer.hit(&access) {
-        Some(fill) => Served::Fill(fill),
-        None => match parts.leaves.walk(access.page().number()) {
-            Some(leaf) => {
-                if leaf.serves(access) {
-                    Served::Walk(Fill { leaf, at })
-                } else {
-                    Served::Nothing
-                }
+    match next_access(parts, v) {
+        None => end(parts, turn, v),
+        Some(access) => {
+            if parts.mmu.inside(v) {
+                turn_inside(parts, turn, v, access)
+            } else if parts.mmu.pending(v) {
+                flush_and_enter(parts, turn, v)
+            } else {
+                enter(parts, turn, v)
             }
-            None => Served::Nothing,
-        },
-    }
-}
-
-// The access reads or writes its word, and is ended.
-fn touch(parts: &mut Parts, v: u32, access: Access, fill: Fill) -> What
-    requires fits { Fits parts.old }
-    requires fill { IsInUser parts.old.setup.user fill.leaf }
-    requires actor { v < parts.old.setup.vcpus }
-    ensures { Turned parts.old parts.new (Vcpu v) result }
-{
-    let page = user_page(fill, parts.setup.user);
-    let value = touch_word(parts, page, access);
-    end_access(parts, v);
-    What::Touch {
-        access,
-        backing: Backing::User(u64::from(page)),
-        level: fill.leaf.level,
-        value,
-        fill: fill.at,
-    }
-}
-
-// The user page that the fill maps.
-fn user_page(fill: Fill, user: u32) -> u32
-    requires { IsInUser user fill.leaf }
-    ensures page { fill.leaf.place ≡ Place.User result }
-    ensures below { result < user }
-{
-    match fill.leaf.place {
-        Place::User(page) => page as u32,
-        Place::Frame(_) => unreachable!(),
-    }
-}
-
-// Reads the access's word of a user page, or writes it. Answers its value afterwards.
-fn touch_word(parts: &mut Parts, page: u32, access: Access) -> u64
-    requires fits { Fits parts.old }
-    requires page { page < parts.old.setup.user }
-    ensures fits { Fits parts.new }
-    ensures setup { parts.new.setup ≡ parts.old.setup }
-    ensures vcpus { parts.new.vcpus ≡ parts.old.vcpus }
-    ensures callers { parts.new.callers ≡ parts.old.callers }
-    ensures gone { parts.new.gone ≡ parts.old.gone }
-{
-    match access.op() {
-        Op::Read => parts.user.read(page, access.word()),
-        Op::Write(value) => {
-            write_word(parts, page, access.word(), value);
-            value
         }
     }
 }
 
-fn turn_faulting(parts: &mut Parts, v: u32, ticket: Ticket, at: u64) -> What
-    requires fits { Fits parts.old }
-    requires ticket { TicketFits parts.old.setup.user ticket }
+fn end(parts: &mut Parts, turn: u64, v: u32)
+    requires settled { Settled (values_of parts.old) turn }
     requires actor { v < parts.old.setup.vcpus }
-    requires room { 0 < parts.old.leaves.spare }
-    ensures { Turned parts.old parts.new (Vcpu v) result }
+    requires room { IsRoomy parts.old }
+    requires present { gone (Vcpu v) parts.old.log.past ≡ false }
+    requires none_left { next_command (orders_of (values_of parts.old)) (Vcpu v) parts.old.log.past ≡ None }
+    ensures { Turned (values_of parts.old) (values_of parts.new) turn (Vcpu v) false }
 {
-    match (ticket.sampled, ticket.looked) {
-        (None, _) => sample(parts, v, ticket, at),
-        (Some(_), None) => look(parts, v, ticket, at),
-        (Some(_), Some(looked)) => match ticket.backing {
-            None => take_route(parts, v, ticket, looked),
-            Some(backing) => install(parts, v, ticket, looked, backing),
-        },
-    }
-}
-
-fn sample(parts: &mut Parts, v: u32, ticket: Ticket, at: u64) -> What
-    requires fits { Fits parts.old }
-    requires ticket { TicketFits parts.old.setup.user ticket }
-    requires actor { v < parts.old.setup.vcpus }
-    ensures { Turned parts.old parts.new (Vcpu v) result }
-{
-    let sampled = Some(Sampled { at, seq: 0 });
-    stand(parts, v, Phase::Faulting(Ticket { sampled, ..ticket }));
-    What::Sample { at }
-}
-
-fn look(parts: &mut Parts, v: u32, ticket: Ticket, at: u64) -> What
-    requires fits { Fits parts.old }
-    requires ticket { TicketFits parts.old.setup.user ticket }
-    requires actor { v < parts.old.setup.vcpus }
-    ensures { Turned parts.old parts.new (Vcpu v) result }
-{
-    let slot = parts.slots.over(ticket.access.page().number());
-    let looked = Some(Looked {
-        at,
-        slot,
-        attr: Kind::Shared,
+    parts.gone.set(Actor::Vcpu(v));
+    parts.mmu.leave(v);
+    parts.log.append(Entry {
+        turn,
+        actor: Actor::Vcpu(v),
+        what: What::Gone,
     });
-    stand(parts, v, Phase::Faulting(Ticket { looked, ..ticket }));
-    What::Look {
-        at,
-        slot: id_of(slot),
-        attr: Kind::Shared,
-        file: None,
-    }
 }
 
-fn id_of(slot: Option<SlotView>) -> Option<u32> {
-    slot.map(|slot| slot.id)
-}
-
-// The fault leaves the guest, or gets its user page.
-fn take_route(parts: &mut Parts, v: u32, ticket: Ticket, looked: Looked) -> What
-    requires fits { Fits parts.old }
-    requires ticket { TicketFits parts.old.setup.user ticket }
-    requires looked { LookFits parts.old.setup.user ticket.access.page looked }
+fn flush(parts: &mut Parts, turn: u64, v: u32)
+    requires settled { Settled (values_of parts.old) turn }
     requires actor { v < parts.old.setup.vcpus }
-    ensures { Turned parts.old parts.new (Vcpu v) result }
+    requires room { IsRoomy parts.old }
+    requires pending { pending v parts.old.log.past ≡ true }
+    ensures { Turned (values_of parts.old) (values_of parts.new) turn (Vcpu v) true }
 {
-    match decide(&looked, &ticket.access) {
-        Route::Exit(why) => exit(parts, v, why),
-        Route::User(page) => get(parts, v, ticket, page),
-        Route::File(_, _) => unreachable!(),
-    }
+    parts.mmu.flush(v);
+    parts.log.append(Entry {
+        turn,
+        actor: Actor::Vcpu(v),
+        what: What::Flush,
+    });
 }
 
-fn exit(parts: &mut Parts, v: u32, why: Exit) -> What
-    requires fits { Fits parts.old }
+fn enter(parts: &mut Parts, turn: u64, v: u32)
+    requires settled { Settled (values_of parts.old) turn }
     requires actor { v < parts.old.setup.vcpus }
-    ensures { Turned parts.old parts.new (Vcpu v) result }
+    requires room { IsRoomy parts.old }
+    requires outside { inside v parts.old.log.past ≡ false }
+    requires no_fault { fault v parts.old.log.past ≡ NoFault }
+    requires none_pending { pending v parts.old.log.past ≡ false }
+    requires waiting { IsWaiting (next_command (orders_of (values_of parts.old)) (Vcpu v) parts.old.log.past) }
+    ensures { Turned (values_of parts.old) (values_of parts.new) turn (Vcpu v) false }
 {
-    end_access(parts, v);
-    stand(parts, v, Phase::Outside);
-    What::Left { why }
+    parts.mmu.enter(v);
+    parts.log.append(Entry {
+        turn,
+        actor: Actor::Vcpu(v),
+        what: What::Enter,
+    });
 }
 
-fn get(parts: &mut Parts, v: u32, ticket: Ticket, page: u64) -> What
-    requires fits { Fits parts.old }
-    requires ticket { TicketFits parts.old.setup.user ticket }
-    requires page { page < parts.old.setup.user }
+// A flush that is pending is done before the vCPU enters, in one turn.
+fn flush_and_enter(parts: &mut Parts, turn: u64, v: u32)
+    requires settled { Settled (values_of parts.old) turn }
     requires actor { v < parts.old.setup.vcpus }
-    ensures { Turned parts.old parts.new (Vcpu v) result }
+    requires room { IsRoomy parts.old }
+    requires outside { inside v parts.old.log.past ≡ false }
+    requires no_fault { fault v parts.old.log.past ≡ NoFault }
+    requires pending { pending v parts.old.log.past ≡ true }
+    requires waiting { IsWaiting (next_command (orders_of (values_of parts.old)) (Vcpu v) parts.old.log.past) }
+    ensures { Turned (values_of parts.old) (values_of parts.new) turn (Vcpu v) false }
 {
-    let backing = Backing::User(page);
-    let got = Ticket {
-        backing: Some(backing),
-        ..ticket
-    };
-    stand(parts, v, Phase::Faulting(got));
-    What::Get { backing, fresh: 0 }
-}
-
-fn install(parts: &mut Parts, v: u32, ticket: Ticket, looked: Looked, backing: Backing) -> What
-    requires fits { Fits parts.old }
-    requires backing { BackingFits parts.old.setup.user backing }
-    requires actor { v < parts.old.setup.vcpus }
-    requires room { 0 < parts.old.leaves.spare }
-    ensures { Turned parts.old parts.new (Vcpu v) result }
-{
-    let page = ticket.access.page();
-    let place = match backing {
-        Backing::User(page) => Place::User(page),
-        Backing::Folio(folio) => Place::Frame(folio.frame),
-    };
-    let leaf = Leaf {
-        first: page.number(),
-        level: Level::Small,
-        kind: ticket.access.kind(),
-        place,
-        writable: is_writable(looked.slot),
-    };
-    install_leaf(parts, leaf);
-    stand(parts, v, Phase::Outside);
-    What::Install {
-        page,
-        level: Level::Small,
-    }
-}
-
-// Whether the user pages of the slot may be written.
-fn is_writable(slot: Option<SlotView>) -> bool {
-    match slot {
-        Some(slot) => slot.flags & KVM_MEM_READONLY == 0,
-        None => false,
-    }
+    parts.mmu.flush(v);
+    parts.log.append(Entry {
+        turn,
+        actor: Actor::Vcpu(v),
+        what: What::Flush,
+    });
+    parts.mmu.enter(v);
+    parts.log.append(Entry {
+        turn,
+        actor: Actor::Vcpu(v),
+        what: What::Enter,
+    });
 }

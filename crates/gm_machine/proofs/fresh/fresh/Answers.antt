@@ -1,30 +1,11 @@
-use Rattle.std.proofs.Common.{[], arith}
-use Rattle.std.proofs.lemmas.Grind.{common_steps}
-use Rattle.gm_machine.specs.Fits.{PhaseFits}
-use Rattle.gm_machine.specs.Kept.{AllInUser}
-use Rattle.gm_machine.specs.declared.standing.Phase.TheVariants.{Outside}
-use Rattle.gm_machine.proofs.EachSet.{each_replicate, get_or_any}
+use Rattle.gm_machine.proofs.Opening.{opens}
 use Rattle.gm_machine.proofs.fresh.fresh.Goals as goal
 
-pub returns-clause-fits : goal.returns-clause-fits
-returns-clause-fits c =
-    let setup = c.setup-setup.result in
-    record {
-      vcpu_lists = grind (arith, common_steps);
-      caller_lists = grind (arith, common_steps);
-      phase_count = grind (arith, common_steps);
-      buffer_count = grind (arith, common_steps);
-      ended_count = grind (arith, common_steps);
-      answered_count = grind (arith, common_steps);
-      gone_vcpus = grind (arith, common_steps);
-      gone_callers = grind (arith, common_steps);
-      bank = grind (arith, common_steps);
-      slots = grind (arith, common_steps);
-      leaves = grind (arith, common_steps);
-      buffers = each_replicate (AllInUser setup.user) setup.vcpus [] c.in_ok-buffers.buffers.items (c.in_ok-buffers.ensures {u = tt}) tt;
-      phases = each_replicate (PhaseFits setup.user) setup.vcpus Outside c.in_ok-phases.phases.items (c.in_ok-phases.ensures {u = tt}) tt;
-      touches = λ v k d lt.
-          rw (get_or_any c.in_ok-vcpus.vcpus.items v d [] lt, c.in_ok-vcpus.ensures {u = tt}, c.vcpus.ensures) (c.setup-setup.ensures.even.touches v k);
-      calls = λ v k d lt.
-          rw (get_or_any c.in_ok-callers.callers.items v d [] lt, c.in_ok-callers.ensures {u = tt}, c.callers.ensures, c.setup-setup.ensures.setup) (c.setup-setup.ensures.even.calls v k);
-    }
+pub returns-clause-settled : goal.returns-clause-settled
+returns-clause-settled c =
+    let s = c.args.script.now in
+    let setup = c.setup-setup.ensures.setup in
+    rw (c.in_ok-gone.ensures {u = tt}, c.in_ok-answered.ensures {u = tt}, c.in_ok-ended.ensures {u = tt}, c.in_ok-faults.ensures {u = tt}, c.in_ok-slots.ensures {u = tt}, c.new-log.ensures, c.in_ok-callers.ensures {u = tt}, c.callers.ensures, c.in_ok-vcpus.ensures {u = tt}, c.vcpus.ensures, setup)
+    (opens s c.in_ok-mmu.mmu c.in_ok-user.user c.setup-setup.ensures.even
+    (record { leaves = c.in_ok-mmu.ensures.leaves; fills = rw (← setup) c.in_ok-mmu.ensures.fills; requests = rw (← setup) c.in_ok-mmu.ensures.requests; progress = c.in_ok-mmu.ensures.progress })
+    (rw (← setup) c.in_ok-user.ensures.len) c.in_ok-user.ensures.zero)

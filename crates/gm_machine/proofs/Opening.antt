@@ -1,0 +1,96 @@
+-- A new machine.
+use Rattle.std.proofs.Common.{◌≡◌, ℕ, ◌<◌, List, [], false, length, get_or, replicate, Option, None, arith, ◌∙◌, ap, refl}
+use Rattle.std.proofs.lemmas.Bool.{both_ways}
+use Rattle.std.proofs.lemmas.List.{get_or-replicate, length-replicate}
+use Rattle.gm_base.specs.Scripts.{Schedule}
+use Rattle.gm_fault.specs.declared.ticket.Ticket.{Ticket}
+use Rattle.gm_flat.specs.Histories.{NoFault}
+use Rattle.gm_laws.specs.Ruled.{AllFreed}
+use Rattle.gm_mmu.specs.Served.{Serving}
+use Rattle.gm_tlb.specs.Requests.{Requests, outside}
+use Rattle.gm_tlb.specs.declared.ring.Seat.{Seat}
+use Rattle.gm_tlb.specs.declared.tlb.Fill.{Fill}
+use Rattle.gm_words.specs.Banks.{word_in}
+use Rattle.gm_machine.proofs.Gone.{flag_of-no_flags}
+use Rattle.gm_machine.proofs.Lists.{replicate_each}
+use Rattle.gm_machine.specs.Flags.{no_flags}
+use Rattle.gm_machine.specs.Settled.{Settled}
+use Rattle.gm_machine.specs.Stands.{Stands}
+use Rattle.gm_machine.specs.Ties.{FaultIs, FillsAre, SeatIs}
+use Rattle.gm_machine.specs.Views.{View}
+use Rattle.gm_script.specs.Built.{IsEven}
+
+pub record IsFreshMmu (vcpus : ℕ) (m : Serving) : Type 0 where
+  pub leaves : m.leaves ≡ []
+  pub fills : m.fills ≡ replicate vcpus []
+  pub requests : m.requests ≡ record { asked = 0; seats = replicate vcpus outside }
+  pub progress : m.progress ≡ record { seq = 0; count = 0; kept = None }
+
+abbrev pub opening : Schedule → Serving → List (List ℕ) → View
+opening s mmu user = record {
+  setup = s.orders.setup;
+  vcpus = s.orders.vcpus;
+  callers = s.orders.callers;
+  past = [];
+  mmu = mmu;
+  slots = record { slots = []; generation = 0 };
+  user = user;
+  faults = replicate s.orders.setup.vcpus None;
+  ended = replicate s.orders.setup.vcpus 0;
+  answered = replicate s.orders.setup.callers 0;
+  gone = no_flags s.orders.setup.vcpus s.orders.setup.callers;
+}
+
+seat_open : (n v : ℕ) (d : Seat) → v < n → SeatIs (get_or (replicate n outside) v d) 0 v []
+seat_open n v d lt = replicate_each (λ (u : ℕ) (x : Seat). SeatIs x 0 u []) n outside (λ u. record { is_inside = refl; is_pending = refl; so_far = omega arith }) v d lt
+
+pub opens : (s : Schedule) (mmu : Serving) (user : List (List ℕ)) → IsEven s → IsFreshMmu s.orders.setup.vcpus mmu → length user ≡ s.orders.setup.user → ((page word : ℕ) → word_in user page word ≡ 0) → Settled (opening s mmu user) 1
+opens s mmu user even m len zero_words =
+    let v = s.orders.setup.vcpus in
+    let c = s.orders.setup.callers in
+    let stands : Stands (opening s mmu user) = record {
+      sizes = record {
+        vcpu_lists = even.vcpus;
+        caller_lists = even.callers;
+        fault_count = length-replicate v None;
+        seat_count = ap (λ (r : Requests). length r.seats) m.requests ∙ length-replicate v outside;
+        buffer_count = ap (λ (fs : List (List Fill)). length fs) m.fills ∙ length-replicate v [];
+        ended_count = length-replicate v 0;
+        answered_count = length-replicate c 0;
+        gone_vcpus = length-replicate v false;
+        gone_callers = length-replicate c false;
+        bank = len;
+        no_blocks = even.setup.huge;
+        user_small = even.setup.user;
+      };
+      commanded = record { touches = even.touches; calls = even.calls; one_passes = even.one_passes };
+      actors = record {
+        ended_are = λ u d lt. get_or-replicate v u 0 d lt;
+        answered_are = λ u d lt. get_or-replicate c u 0 d lt;
+        gone_are = λ a k. flag_of-no_flags v c a;
+        faults_are = λ u d lt. replicate_each (λ (n : ℕ) (x : Option Ticket). FaultIs s.orders.setup.user mmu.progress.seq [] x NoFault) v None (λ n. tt) u d lt;
+      };
+      memory = record {
+        seats_are = rw m.requests (λ u d lt. seat_open v u d lt);
+        buffers_are = rw m.fills (λ u d lt. replicate_each (λ (n : ℕ) (x : List Fill). FillsAre s.orders.setup.user 0 x []) v [] (λ n. tt) u d lt);
+        leaves_are = rw m.leaves (λ page. tt);
+        count_is = rw m.progress refl;
+        range_is = rw m.progress refl;
+        words_are = λ page word lp lw. zero_words page word;
+        slots_are = refl;
+        generation_is = refl;
+        slots_bounded = tt;
+        all_shared = refl;
+        no_folios = refl;
+      };
+    } in
+    record {
+      stands = stands;
+      calm = record { no_call = λ n. refl; no_bracket = λ n. refl };
+      due = λ n k p h. refl;
+      ruled = record { follows = tt; row = tt; freed = nothing_loose };
+      new_turn = omega arith;
+    }
+  where
+    nothing_loose : AllFreed []
+    nothing_loose h = absurd (both_ways false refl h)
