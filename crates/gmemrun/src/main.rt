@@ -3,17 +3,17 @@
 
 mod read;
 mod refusal;
-mod run;
 mod status;
+mod steps;
 mod top;
 
 use gm_io::{OpenGate, ReaderSource, WriterSink};
-pub use run::run_steps;
 pub use status::Status;
 use std::alloc::{AllocError, Global};
 use std::process::ExitCode;
 use std::{env, io};
-pub use top::run as run_words;
+pub use steps::run_steps;
+pub use top::run;
 
 // The number with which the program ends where the runtime refuses its words. No status has it.
 const WORDS_REFUSED: u8 = 9;
@@ -40,7 +40,7 @@ fn main(rt: HostRuntime) -> ExitCode {
     };
     let mut source = ReaderSource::new(rt.reader());
     let mut sink = WriterSink::new(io::writer(&rt));
-    let status = run_words(&rt, rt.alloc(), &words, &mut source, &mut sink, &OpenGate);
+    let status = run(&rt, rt.alloc(), &words, &mut source, &mut sink, &OpenGate);
     ExitCode::from(status.number())
 }
 

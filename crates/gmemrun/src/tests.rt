@@ -43,7 +43,7 @@ fn rows_over_sure_ends(rt: HostRuntime) -> Result<(), Fail> {
         (
             A_WRITE_NOT_BUILT,
             Status::BadScript,
-            [b"bad line=1 cause=unbuilt\n", b"", b"", b""],
+            [b"bad line=2 cause=unbuilt\n", b"", b"", b""],
         ),
     ];
     for (script, status, pieces) in rows {
@@ -62,11 +62,24 @@ fn rows_over_sure_ends(rt: HostRuntime) -> Result<(), Fail> {
 #[test]
 fn faults_and_ends(rt: HostRuntime) -> Result<(), Fail> {
     let alloc = rt.alloc();
-    let mut source = MemorySource::new(alloc, ONE_READ, &[0])
+    // The source is asked twice: for the script, and for what comes after it.
+    for call in 0..2u64 {
+        let mut source = MemorySource::new(alloc, ONE_READ, &[call])
+            .ok()
+            .ok_or("memory")?;
+        let mut sink = MemorySink::new(alloc, 4096, &[]).ok().ok_or("memory")?;
+        assert_eq!(rt; run_steps(alloc, &mut source, &mut sink), Status::ReadFault);
+        assert_eq!(rt; sink.held(), b"".as_slice());
+    }
+    // The sink is asked once.
+    let mut source = MemorySource::new(alloc, ONE_READ, &[])
         .ok()
         .ok_or("memory")?;
-    let mut sink = MemorySink::new(alloc, 4096, &[]).ok().ok_or("memory")?;
-    assert_eq!(rt; run_steps(alloc, &mut source, &mut sink), Status::ReadFault);
+    let mut sink = MemorySink::new(alloc, 4096, &[0]).ok().ok_or("memory")?;
+    assert_eq!(rt;
+        run_steps(alloc, &mut source, &mut sink),
+        Status::WriteFault
+    );
     assert_eq!(rt; sink.held(), b"".as_slice());
     let mut source = MemorySource::new(alloc, ONE_READ, &[])
         .ok()
@@ -93,7 +106,7 @@ fn words_over_std_ends(rt: HostRuntime) -> Result<(), Fail> {
         let mut source = ReaderSource::new(ONE_READ);
         let mut sink = WriterSink::new(Vec::new(alloc));
         assert_eq!(rt;
-            run_words(&rt, alloc, &words, &mut source, &mut sink, &OpenGate),
+            run(&rt, alloc, &words, &mut source, &mut sink, &OpenGate),
             status
         );
     }

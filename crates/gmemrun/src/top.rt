@@ -3,11 +3,11 @@
 ghost use Rattle.std.specs.Prelude.{◌≡◌, ◌↔◌, IfSome, IsTrue};
 ghost use Rattle.gm_io.specs.Causes.{Rose};
 ghost use Rattle.gmemrun.specs.Reading.{TookTooMuch};
-ghost use Rattle.gmemrun.specs.Running.{Ran, Refused, WroteFront, IsSilent};
+ghost use Rattle.gmemrun.specs.Running.{EndsBy, Ran, Refused, WroteFront, IsSilent};
 ghost use Rattle.gmemrun.specs.Words.{IsSteps};
 
-use crate::run::run_steps;
 use crate::status::Status;
+use crate::steps::run_steps;
 use gm_io::{Gate, Sink, Source};
 use std::alloc::Global;
 use std::sync::Wait;
@@ -39,6 +39,8 @@ pub fn run<R: Threads + Wait + Sync, S: Source, K: Sink, G: Gate + Sync>(
     ensures front { result ≡ Status.WriteFault → IfSome (S.left source.old) (λ bytes. WroteFront bytes (K.held sink.old) (K.held sink.new)) }
     ensures too_long { result ≡ Status.TooLong → TookTooMuch (S.left source.old) (S.left source.new) }
     ensures nothing { IsSilent result → K.held sink.new ≡ K.held sink.old }
+    ensures complete { IsSteps words.now → (Rose (S.faults source.old) (S.faults source.new) → ⊥) → (Rose (K.faults sink.old) (K.faults sink.new) → ⊥) → IfSome (S.left source.old) (λ bytes. EndsBy bytes result) }
+    ensures unread { result ≡ Status.Usage → S.left source.new ≡ S.left source.old }
 {
     if !says_steps(words) {
         return Status::Usage;
