@@ -3,6 +3,7 @@
 #![tactic(auto)]
 
 mod changes;
+mod faults;
 mod files;
 mod frames;
 mod kinds;

@@ -17,6 +17,8 @@ pub enum Part {
     Tlb,
     Inval,
     Slots,
+    Mmu,
+    Fault,
 }
 
 impl Part {
@@ -32,6 +34,8 @@ impl Part {
             Part::Tlb => "tlb",
             Part::Inval => "inval",
             Part::Slots => "slots",
+            Part::Mmu => "mmu",
+            Part::Fault => "fault",
         }
     }
 }
@@ -55,6 +59,8 @@ fn read_part(word: &str) -> Option<Part> {
         "tlb" => Some(Part::Tlb),
         "inval" => Some(Part::Inval),
         "slots" => Some(Part::Slots),
+        "mmu" => Some(Part::Mmu),
+        "fault" => Some(Part::Fault),
         _ => None,
     }
 }

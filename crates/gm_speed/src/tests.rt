@@ -14,6 +14,8 @@ fn each_part_does_what_is_asked(rt: HostRuntime) -> Result<(), Fail> {
         Part::Tlb,
         Part::Inval,
         Part::Slots,
+        Part::Mmu,
+        Part::Fault,
     ] {
         for order in [Order::Rising, Order::Random] {
             let request = Request {

@@ -4,6 +4,7 @@ ghost use Rattle.std.specs.Prelude.{◌≤◌, IfOk};
 ghost use Rattle.gm_speed.specs.declared.order.TheConstants.{LARGEST};
 
 use crate::changes::{run_inval, run_tlb};
+use crate::faults::{run_fault, run_mmu};
 use crate::files::run_file;
 use crate::frames::{run_pool, run_words};
 use crate::kinds::{run_attr, run_ranges};
@@ -29,5 +30,7 @@ pub fn run(alloc: Global, request: Request) -> Result<u32, NoMemory>
         Part::Tlb => run_tlb(alloc, order, count),
         Part::Inval => Ok(run_inval(order, count)),
         Part::Slots => run_slots(alloc, order, count),
+        Part::Mmu => run_mmu(alloc, order, count),
+        Part::Fault => Ok(run_fault(order, count)),
     }
 }
