@@ -126,7 +126,7 @@ within s (Populate gpa pages user) f =
     (λ _. slot_populate-within s (page_of gpa) pages user f (slot_over f.slots (page_of gpa)))
 
 -- what a Change may be, over the state before it
-abbrev New : Effect → Flat → Type 0
+abbrev pub New : Effect → Flat → Type 0
 New (File file pages block) f = file ≡ length f.files
 New (Slot id base pages user flags file index) f = (F : ℕ) → of_file F file ≡ true → index + pages ≤ file_pages F f.files
 New _ f = Unit {0}
@@ -158,7 +158,7 @@ new_in s e d y past None k c h =
 new_in s e d y past (Some b) k c h =
     new_bracket e y.ioctl (flat_at y.judged past) (flat past) h.1.0 (subst (λ (p : Plan). Fits y.ioctl (flat_at y.judged past) p) h.1.1 (fits s y.ioctl (flat_at y.judged past)))
 
-new_by : (s : Setup) (e : Effect) (d : ℕ) (past : List Entry) (o : Option Call) → Locks s past → call d past ≡ o → CanChange s e past o (bracket d past) → New e (flat past)
+pub new_by : (s : Setup) (e : Effect) (d : ℕ) (past : List Entry) (o : Option Call) → Locks s past → call d past ≡ o → CanChange s e past o (bracket d past) → New e (flat past)
 new_by s e d past None k c m = absurd m
 new_by s e d past (Some y) k c m = new_in s e d y past (bracket d past) k c m.1
 
@@ -179,7 +179,7 @@ made_shut F K (f ∷ files) = go (eqb f.number K) (made_shut F K files)
     go true e = refl
     go false e = ap (λ (b : Bool). eqb f.number F || b) e
 
-pages_shut : (F K : ℕ) (files : List FileState) → file_pages F (shut_files K files) ≡ file_pages F files
+pub pages_shut : (F K : ℕ) (files : List FileState) → file_pages F (shut_files K files) ≡ file_pages F files
 pages_shut F K [] = refl
 pages_shut F K (f ∷ files) = go (eqb f.number K) (pages_shut F K files)
   where
@@ -187,7 +187,7 @@ pages_shut F K (f ∷ files) = go (eqb f.number K) (pages_shut F K files)
     go true e = refl
     go false e = ap (λ (n : ℕ). cond (eqb f.number F) f.pages n) e
 
-used_made : (F : ℕ) (files : List FileState) → in_use F files ≡ true → was_made F files ≡ true
+pub used_made : (F : ℕ) (files : List FileState) → in_use F files ≡ true → was_made F files ≡ true
 used_made F [] h = absurd (both_ways false refl h)
 used_made F (f ∷ files) h = go (eqb f.number F) f.used (in_use F files) (was_made F files) (used_made F files) h
   where
@@ -196,7 +196,7 @@ used_made F (f ∷ files) h = go (eqb f.number F) f.used (in_use F files) (was_m
     go false u v w f h = f h
 
 -- file numbers are below their count
-abbrev Numbered : List FileState → Type 0
+abbrev pub Numbered : List FileState → Type 0
 Numbered files = (F : ℕ) → was_made F files ≡ true → F < length files
 
 shut_numbered : (K : ℕ) (files : List FileState) → Numbered files → Numbered (shut_files K files)
@@ -261,7 +261,7 @@ kept_keep o t w a past k m s =
     subst (λ (rs : List SlotView). Kept rs (flat (by t a w ∷ past)).files) (sym same.0)
     (subst (λ (fs : List FileState). Kept (flat past).slots fs) (sym same.2) s)
 
-kept : (o : Orders) (past : List Entry) → Follows o past → Kept (flat past).slots (flat past).files
+pub kept : (o : Orders) (past : List Entry) → Follows o past → Kept (flat past).slots (flat past).files
 kept o [] r = record { numbered = λ F m. absurd (both_ways false refl m); inside = tt }
 kept o (e ∷ past) r = kept_keep o e.turn e.what e.actor past (locks o past r.1) r.0.may (kept o past r.1)
 

@@ -41,4 +41,7 @@ pub mod Frames
 pub mod SlotsKeep
 pub mod TurnsKeep
 pub mod BoundRanges
+mod JudgedRows
+mod OpenCalls
+pub mod RowsSeen
 pub mod Whole

@@ -145,6 +145,7 @@ Facts (NoSlot id) i h f = (takes_slots i ≡ true) × ((F : ℕ) → of_file F (
 Facts (Move id base) i h f = (takes_slots i ≡ true) × ((F : ℕ) → of_file F (file_of (with_id id f.slots)) ≡ false) × ((s : SlotView) → with_id id f.slots ≡ Some s → meets_slot base s.pages (dropped id f.slots) ≡ false)
 Facts (Shut F) i h f = (takes_slots i ≡ true) × (takes (FileLock F) i h ≡ true)
 Facts (Cut F lo hi) i h f = takes (FileLock F) i h ≡ true
+Facts (Attr span kind) i h f = takes_slots i ≡ true
 Facts _ i h f = Unit {0}
 
 facts_short : (e : Effect) (i : Ioctl) (n : ℕ) (h : Flat) → Fits i h (Short e n) → Facts e i h h
@@ -192,7 +193,7 @@ facts_bracket (Move id base) i h f spans same files x = (
 )
 facts_bracket (Shut F) i h f spans same files x = (x.0, and_from (takes_file F i h) (in_use F h.files) x.1 x.2)
 facts_bracket (Cut F lo hi) i h f spans same files x = and_from (takes_file F i h) (in_use F h.files) x.0 x.1
-facts_bracket (Attr span kind) i h f spans same files x = tt
+facts_bracket (Attr span kind) i h f spans same files x = x.0
 facts_bracket (Slot id base pages user flags file index) i h f spans same files x = absurd x
 facts_bracket (File file pages block) i h f spans same files x = absurd x
 facts_bracket (Word page word value) i h f spans same files x = absurd x

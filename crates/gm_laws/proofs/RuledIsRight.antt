@@ -99,7 +99,7 @@ step_is o (Page index folio pages) (Vcpu v) past m = absurd m
 step_is o End (Vcpu v) past m = absurd m
 step_is o (Answer reply) (Vcpu v) past m = absurd m
 
-right_order : (o : Orders) (e : Entry) (past : List Entry) → FollowsRules o e past → RightOrder o e past
+pub right_order : (o : Orders) (e : Entry) (past : List Entry) → FollowsRules o e past → RightOrder o e past
 right_order o e past r = record { actor_is = r.actor_is; together = r.together; whole_before = r.row; step = step_is o e.what e.actor past r.may }
 
 right_lives : (o : Orders) (e : Entry) (past : List Entry) → FollowsRules o e past → Follows o past → RightLives o.setup e past

@@ -4,6 +4,7 @@ pub mod Conversion
 pub mod FlushPending
 pub mod HeldPage
 pub mod Invariant
+pub mod JudgedRows
 pub mod LivesEverywhere
 pub mod May
 pub mod MixedBlock

@@ -13,6 +13,7 @@ ghost use Rattle.gm_flat.specs.declared.entry.What.{What};
 ghost use Rattle.gm_laws.specs.BoundRanges.{BoundRanges};
 ghost use Rattle.gm_laws.specs.Contents.{added_word, last_write, or_else};
 ghost use Rattle.gm_laws.specs.Invariant.{Invariant};
+ghost use Rattle.gm_laws.specs.JudgedRows.{CallsGoOn, SeesItsRow};
 ghost use Rattle.gm_laws.specs.LivesEverywhere.{LivesEverywhere};
 ghost use Rattle.gm_laws.specs.Readings.{how_many, is_begin, is_end};
 ghost use Rattle.gm_laws.specs.Ruled.{Ruled};
@@ -90,4 +91,13 @@ pub fn slots_stand_apart()
 pub fn bound_ranges_lie_inside()
     ensures now { (o : Orders) (past : List Entry) → Right o past → BoundRanges (flat past) }
     ensures before { (o : Orders) (e : Entry) (front past : List Entry) → Right o past → Stands e front past → BoundRanges (flat front) }
+{}
+
+/// At every position of a right history, also inside a turn, a call in progress that hasn't made its change sees the row of its
+/// Judge: its plan over the present state is its plan over the state there, with the same effect and spans, or the same file
+/// and range. Between two turns each call in progress is one that makes its change in a bracket, or adds pages.
+pub fn calls_see_their_rows()
+    ensures now { (o : Orders) (past : List Entry) → Right o past → SeesItsRow o.setup past }
+    ensures before { (o : Orders) (e : Entry) (front past : List Entry) → Right o past → Stands e front past → SeesItsRow o.setup front }
+    ensures go_on { (o : Orders) (past : List Entry) → Right o past → CallsGoOn o.setup past }
 {}
