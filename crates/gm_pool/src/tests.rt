@@ -82,3 +82,46 @@ fn a_broken_block_isnt_taken(rt: HostRuntime) -> Result<(), Fail> {
     assert_eq!(rt; pool.serial(511), Some(512));
     Ok(())
 }
+
+/// The ends of the range of a pool's size: its first frame, and its first block.
+#[test]
+fn the_ends_of_the_frames(rt: HostRuntime) -> Result<(), Fail> {
+    for (frames, one, block) in [
+        (0, None, None),
+        (1, Some(0), None),
+        (511, Some(0), None),
+        (512, Some(0), Some(0)),
+        (513, Some(0), Some(0)),
+        (65_536, Some(0), Some(0)),
+    ] {
+        let mut pool = Pool::new(rt.alloc(), frames).ok().ok_or("memory")?;
+        assert_eq!(rt; pool.take_one().map(|folio| folio.frame), one, "{frames}");
+        assert_eq!(rt; pool.serial(frames), None, "{frames}");
+        let mut whole = Pool::new(rt.alloc(), frames).ok().ok_or("memory")?;
+        assert_eq!(rt; whole.take_block().map(|folio| folio.frame), block, "{frames}");
+    }
+    Ok(())
+}
+
+/// What is left after the first block: the second one, and the last frame.
+#[test]
+fn the_last_frames_are_given(rt: HostRuntime) -> Result<(), Fail> {
+    for (frames, second, last) in [
+        (512, None, None),
+        (513, None, Some(512)),
+        (1023, None, Some(512)),
+        (1024, Some(512), None),
+    ] {
+        let mut pool = Pool::new(rt.alloc(), frames).ok().ok_or("memory")?;
+        let first = pool.take_block().ok_or("a block")?;
+        assert_eq!(rt; first.frame, 0, "{frames}");
+        assert_eq!(rt; pool.take_block().map(|folio| folio.frame), second, "{frames}");
+        if second.is_none() {
+            let mut rest = Pool::new(rt.alloc(), frames).ok().ok_or("memory")?;
+            let block = rest.take_block().ok_or("a block")?;
+            assert_eq!(rt; block.serial, 0, "{frames}");
+            assert_eq!(rt; rest.take_one().map(|folio| folio.frame), last, "{frames}");
+        }
+    }
+    Ok(())
+}
