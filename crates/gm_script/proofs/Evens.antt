@@ -22,9 +22,9 @@ use Rattle.gm_script.specs.declared.actors.Named.TheVariants.{Vcpu as NamedVcpu,
 use Rattle.gm_script.specs.declared.orders.Order.{Order}
 use Rattle.gm_script.specs.declared.orders.Order.TheVariants.{Touch, Call, Turns, Kick, Round}
 use Rattle.gm_script.specs.Actors.{is_known, actor_of}
-use Rattle.gm_script.specs.BuiltForms.{is_read, is_plain, is_built}
+use Rattle.gm_script.specs.BuiltForms.{is_plain, is_built}
 use Rattle.gm_script.specs.Rounds.{rounds_of}
-use Rattle.gm_script.specs.Built.{IsTouch, IsSharedRead, IsBuiltCall, IsWithin, passes_at}
+use Rattle.gm_script.specs.Built.{IsTouch, IsBuiltCall, IsWithin, passes_at}
 use Rattle.gm_script.specs.Grammar.{Draft, empty_draft, has_actor, is_aligned, has_room, aim_of, with_turns, after_order, ordered, numbered, formed, later_line, going, after_line}
 use Rattle.gm_script.specs.Lines.{Line, words_of, word_at, is_skipped, has_bad_byte}
 use Rattle.gm_script.specs.Split.{same_bytes}
@@ -76,11 +76,7 @@ shared_kind : (k : Kind) → same_kind k Shared ≡ true → k ≡ Shared
 shared_kind Private h = absurd cc
 shared_kind Shared h = refl
 
-reading : (o : Op) → is_read o ≡ true → o ≡ Read
-reading Read h = refl
-reading (Write v) h = absurd cc
-
-even_access : (d : Draft) (v : ℕ) (kind : Kind) (gpa : ℕ) (op : Op) → IsEvenDraft d → v < d.setup.vcpus → d.commands + 1 ≤ MOST_COMMANDS → IsSharedRead (aim_of kind gpa op) → IsEvenDraft (after_order d (Touch v kind gpa op))
+even_access : (d : Draft) (v : ℕ) (kind : Kind) (gpa : ℕ) (op : Op) → IsEvenDraft d → v < d.setup.vcpus → d.commands + 1 ≤ MOST_COMMANDS → (aim_of kind gpa op).kind ≡ Shared → IsEvenDraft (after_order d (Touch v kind gpa op))
 unfolding after_order
 even_access d v kind gpa op h a r b =
     let n : v < length d.vcpus = omega (arith, h.even.vcpus) in
@@ -163,8 +159,7 @@ pub even_order : (d : Draft) (o : Order) → IsEvenDraft d → has_actor d.setup
 unfolding has_actor has_room is_built aim_of after_order
 even_order d (Touch v kind gpa op) h a r b =
     let room = both_true (leb (d.commands + 1) MOST_COMMANDS) (leb (length d.turns + 0) MOST_TURNS) r in
-    let built = both_true (same_kind kind Shared) (is_read op) b in
-    even_access d v kind gpa op h (is_below v d.setup.vcpus a) (is_at_most (d.commands + 1) MOST_COMMANDS room.0) (record { reads = reading op built.1; is_shared = shared_kind kind built.0 })
+    even_access d v kind gpa op h (is_below v d.setup.vcpus a) (is_at_most (d.commands + 1) MOST_COMMANDS room.0) (shared_kind kind b)
 even_order d (Call c call) h a r b =
     let room = both_true (leb (d.commands + 1) MOST_COMMANDS) (leb (length d.turns + 0) MOST_TURNS) r in
     even_call d c call h (is_below c d.setup.callers a) (is_at_most (d.commands + 1) MOST_COMMANDS room.0) b

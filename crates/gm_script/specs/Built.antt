@@ -8,21 +8,14 @@ use Rattle.gm_base.specs.declared.script.Command.{Command}
 use Rattle.gm_base.specs.declared.script.Command.TheVariants.{Touch, Call}
 use Rattle.gm_base.specs.declared.values.Errno.TheVariants.{Inval}
 use Rattle.gm_base.specs.declared.values.Kind.TheVariants.{Shared}
-use Rattle.gm_base.specs.declared.values.Op.TheVariants.{Read}
 use Rattle.gm_base.specs.declared.values.Setup.{Setup}
 use Rattle.gm_base.specs.declared.numbers.TheConstants.{PAGE_LIMIT, PAGE_BYTES, KVM_MEM_READONLY, MOST_FRAMES, MOST_USER_PAGES, MOST_VCPUS, MOST_CALLERS, MOST_COMMANDS, MOST_TURNS}
-use Rattle.gm_base.specs.Aim.{Aim}
 use Rattle.gm_base.specs.Scripts.{Schedule, IsTurnOf}
 use Rattle.gm_ioctl.specs.Arguments.{argument_refusal, passes}
 
--- a read of shared memory
-pub record IsSharedRead (a : Aim) : Type 0 where
-  pub reads : a.op ≡ Read
-  pub is_shared : a.kind ≡ Shared
-
--- a command of a vCPU that is built
+-- a command of a vCPU that is built: an access of shared memory
 abbrev pub IsTouch : Command → Type 0
-IsTouch (Touch a) = IsSharedRead a
+IsTouch (Touch a) = a.kind ≡ Shared
 IsTouch (Call call) = ⊥
 
 -- the pages and the user pages of a region are pages, and its user pages are ones of the machine

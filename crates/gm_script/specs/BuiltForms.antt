@@ -7,15 +7,9 @@ use Rattle.gm_base.specs.declared.calls.Ioctl.TheVariants.{Create, Region2, Attr
 use Rattle.gm_base.specs.declared.calls.Region.{Region}
 use Rattle.gm_base.specs.declared.numbers.TheConstants.{KVM_MEM_READONLY}
 use Rattle.gm_base.specs.declared.values.Kind.TheVariants.{Shared}
-use Rattle.gm_base.specs.declared.values.Op.{Op}
-use Rattle.gm_base.specs.declared.values.Op.TheVariants.{Read, Write}
 use Rattle.gm_ioctl.specs.Arguments.{passes}
 use Rattle.gm_script.specs.declared.orders.Order.{Order}
 use Rattle.gm_script.specs.declared.orders.Order.TheVariants.{Touch, Call, Turns, Kick, Round}
-
-abbrev pub is_read : Op → Bool
-is_read Read = true
-is_read (Write value) = false
 
 -- a region without a file, whose size isn't 0
 unfoldable pub is_plain_region : Region → Bool
@@ -32,10 +26,10 @@ is_plain (Populate gpa pages user) = false
 is_plain (Poke address value) = false
 is_plain (Peek address) = false
 
--- Shared reads; each call that its arguments refuse, and the first call that passes where it is a plain region; all turns.
+-- Shared accesses; each call that its arguments refuse, and the first call that passes where it is a plain region; all turns.
 -- `has_passed` says whether a call of an earlier line passes.
 unfoldable pub is_built : ℕ → Bool → Order → Bool
-is_built user has_passed (Touch vcpu kind gpa op) = same_kind kind Shared && is_read op
+is_built user has_passed (Touch vcpu kind gpa op) = same_kind kind Shared
 is_built user has_passed (Call caller call) = not (passes user call) || (not has_passed && is_plain call)
 is_built user has_passed (Turns actor count) = true
 is_built user has_passed (Kick vcpu) = true

@@ -5,10 +5,10 @@ ghost use Rattle.gm_ioctl.specs.Arguments.{passes};
 ghost use Rattle.gm_script.specs.BuiltForms.{is_plain_region, is_plain, is_built};
 
 use crate::orders::Order;
-use gm_base::{Ioctl, KVM_MEM_READONLY, Kind, Op, Region};
+use gm_base::{Ioctl, KVM_MEM_READONLY, Kind, Region};
 use gm_ioctl::check;
 
-/// Whether a right line's order is built: shared reads; each call that its arguments refuse, and the first call that
+/// Whether a right line's order is built: shared accesses; each call that its arguments refuse, and the first call that
 /// passes where it is a region without a file and with a size; all turns. `has_passed` says whether a call of an earlier
 /// line passes.
 #[tactic(auto, unfolding(crate::specs::BuiltForms::is_built))]
@@ -16,10 +16,7 @@ pub fn is_built(user: u32, has_passed: bool, order: Order) -> bool
     ensures { result ≡ is_built user has_passed order }
 {
     match order {
-        Order::Touch { kind, op, .. } => match (kind, op) {
-            (Kind::Shared, Op::Read) => true,
-            _ => false,
-        },
+        Order::Touch { kind, .. } => kind == Kind::Shared,
         Order::Call { call, .. } => !passes(user, call) || (!has_passed && is_plain(call)),
         Order::Turns { .. } | Order::Kick { .. } | Order::Round { .. } => true,
     }

@@ -160,7 +160,7 @@ fn bad_orders(rt: HostRuntime) -> Result<(), Fail> {
         (b"round 18446744073709551615\n".as_slice(), 2, Cause::Limit),
         (b"round 43690\nturn c0 5\n".as_slice(), 3, Cause::Limit),
         (b"turn v0 262144\nkick v0\n".as_slice(), 3, Cause::Limit),
-        (b"v0 write shared 0 1\n".as_slice(), 2, Cause::Unbuilt),
+        (b"v0 write private 0 1\n".as_slice(), 2, Cause::Unbuilt),
         (b"v0 read private 0\n".as_slice(), 2, Cause::Unbuilt),
         (b"c0 create 4096 0\n".as_slice(), 2, Cause::Unbuilt),
         (b"c0 create 4096 1\n".as_slice(), 2, Cause::Unbuilt),

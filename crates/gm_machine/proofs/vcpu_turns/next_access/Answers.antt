@@ -16,7 +16,7 @@ returns-in-Touch c =
     let p = next_of_vcpu (values_of c.args.parts.now) c.args.v c.requires.stands c.requires.actor c.index-commands.result.now c.index.result.now c.get.result c.index-commands.ensures c.index.ensures c.get.ensures in
     let is : c.get.result ≡ Some (Touch c.in-Touch.access) = c.in-Some.is ∙ ap Some c.in-Touch.is in
     let plain = subst (λ (x : Option Command). IfSome x IsTouch) is p.1 in
-    (p.0 ∙ is, plain.is_shared)
+    (p.0 ∙ is, plain)
 
 pub returns-in-None : goal.returns-in-None
 returns-in-None c =
