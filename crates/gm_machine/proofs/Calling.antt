@@ -59,7 +59,6 @@ memory_kept w w2 e m a b c d f = record {
   generation_is = rw d m.generation_is;
   slots_bounded = rw (a, d) m.slots_bounded;
   all_shared = rw b m.all_shared;
-  no_folios = rw b m.no_folios;
 }
 
 -- the end
@@ -80,6 +79,7 @@ close_stands w t c st =
         gone_are = gone_more w t (Caller c) st.sizes x.gone_are;
         faults_are = faults_more w.setup.user w.mmu.progress.seq w.setup.vcpus w.faults e w.past (λ j. refl) (λ u. refl) x.faults_are;
       };
+      stores = record { files_are = st.stores.files_are; frames_are = st.stores.frames_are };
       memory = memory_kept w (closed w t c) e (memory_quiet w e w.faults w.ended st.memory (λ u. refl) (λ u. refl) (λ u. refl) refl refl refl (λ p q. refl) refl) refl refl refl refl refl;
     }
 
@@ -87,7 +87,7 @@ pub close_turn : (w : View) (t c : ℕ) → Settled w t → c < w.setup.callers 
 close_turn w t c s lt g n =
     one_by w (closed w t c) t (Caller c) Gone false s lt (close_stands w t c s.stands) refl refl (record { none_left = n; once = g })
     refl refl (quiet_freed (by t (Caller c) Gone ∷ w.past) (quiet_one t (Caller c) Gone w.past s.new_turn refl))
-    (record { no_call = s.calm.no_call; no_bracket = s.calm.no_bracket }) s.due tt
+    (record { pagings_are = s.calls.pagings_are; none_beyond = s.calls.none_beyond; no_bracket = s.calls.no_bracket }) s.due tt
 
 -- a call
 
@@ -98,9 +98,15 @@ judged_call ioctl past made = record { judged = length past; ioctl = ioctl; made
 own_call : (t c : ℕ) (ioctl : Ioctl) (past : List Entry) → call c (by t (Caller c) (Judge ioctl) ∷ past) ≡ Some (judged_call ioctl past false)
 own_call t c ioctl past = cond-true (eqb c c) (Some (judged_call ioctl past false)) (call c past) (self c)
 
-call_over : (t u : Bool) (x y : Option Call) → y ≡ None → cond t None (cond t x y) ≡ None
-call_over true u x y e = refl
-call_over false u x y e = e
+-- where a call is over, for its caller and for another
+over_own : (t : Bool) (x y z : Option Call) → t ≡ true → cond t None (cond t x (cond t y z)) ≡ None
+over_own true x y z e = refl
+
+over_none : (t : Bool) (x y : Option Call) → t ≡ true → cond t None (cond t x y) ≡ None
+over_none true x y e = refl
+
+over_other : (t : Bool) (x y : Option Call) → t ≡ false → cond t None (cond t x y) ≡ y
+over_other false x y e = refl
 
 answered_set : (w : View) (c : ℕ) (e : Entry) (past : List Entry) → Stands w → c < w.setup.callers → done (Caller c) (e ∷ past) ≡ suc (done (Caller c) w.past) → ((d : ℕ) → eqb c d ≡ false → done (Caller d) (e ∷ past) ≡ done (Caller d) w.past) → AnsweredAre (set w.answered c (get_or w.answered c 0 + 1)) w.setup.callers (e ∷ past)
 answered_set w c e past st lt here others =
@@ -110,11 +116,6 @@ answered_set w c e past st lt here others =
   where
     plus_one : (a b : ℕ) → a ≡ b → a + 1 ≡ suc b
     plus_one a b h = omega arith
-
-pub no_lock : (w : View) (t c : ℕ) (ioctl : Ioctl) → IsCalm w.past → WaitsForLock c ioctl w.past → ⊥
-no_lock w t c ioctl calm h =
-    let e = sym (calm.no_call h.holder) ∙ h.holds.1 in
-    cc
 
 -- the plan of a call that was judged right before, or one entry more before
 plan_now : (w : View) (t c : ℕ) (ioctl : Ioctl) (made : Bool) → plan_of w.setup (judged_call ioctl w.past made) (by t (Caller c) (Judge ioctl) ∷ w.past) ≡ plan w.setup ioctl (flat w.past)
@@ -138,6 +139,7 @@ judge_stands w t c ioctl st =
         gone_are = x.gone_are;
         faults_are = faults_more w.setup.user w.mmu.progress.seq w.setup.vcpus w.faults e w.past (λ j. refl) (λ u. refl) x.faults_are;
       };
+      stores = record { files_are = st.stores.files_are; frames_are = st.stores.frames_are };
       memory = memory_quiet w e w.faults w.ended st.memory (λ u. refl) (λ u. refl) (λ u. refl) refl refl refl (λ p q. refl) refl;
     }
 
@@ -154,24 +156,31 @@ answer_stands w t c reply st lt =
         gone_are = x.gone_are;
         faults_are = faults_more w.setup.user w.mmu.progress.seq w.setup.vcpus w.faults e w.past (λ j. refl) (λ u. refl) x.faults_are;
       };
+      stores = record { files_are = st.stores.files_are; frames_are = st.stores.frames_are };
       memory = memory_kept w (record w { answered = set w.answered c (get_or w.answered c 0 + 1); past = e ∷ w.past }) e (memory_quiet w e w.faults w.ended st.memory (λ u. refl) (λ u. refl) (λ u. refl) refl refl refl (λ p q. refl) refl) refl refl refl refl refl;
     }
 
-less_done : (t : Bool) (a k : ℕ) → cond t (suc a) a ≤ k → a ≤ k
+-- a caller whose call is answered adds no pages
+pub idle_after : (w : View) (c : ℕ) (d : Option Paging) (new : List Entry) → CallsAre w.setup w.pagings w.past → c < w.setup.callers → call c w.past ≡ None → call c new ≡ None → PagingIs w.setup (get_or w.pagings c d) (call c new) (flat new)
+idle_after w c d new k lt before after =
+    let o : get_or w.pagings c d ≡ None = paging_none w.setup (get_or w.pagings c d) (call c w.past) (flat w.past) before (k.pagings_are c d lt) in
+    rw (o, after) tt
+
+pub less_done : (t : Bool) (a k : ℕ) → cond t (suc a) a ≤ k → a ≤ k
 less_done t a k h = grind arith
 
-pub refuse_turn : (w : View) (t c : ℕ) (ioctl : Ioctl) (errno : Errno) → Settled w t → c < w.setup.callers → next_command (orders_of w) (Caller c) w.past ≡ Some (CallCommand ioctl) → plan w.setup ioctl (flat w.past) ≡ Refused errno → Turned w (refused w t c ioctl errno) t (Caller c) false
-refuse_turn w t c ioctl errno s lt command planned =
+pub refuse_turn : (w : View) (t c : ℕ) (ioctl : Ioctl) (errno : Errno) → Settled w t → c < w.setup.callers → MayCall w c ioctl → plan w.setup ioctl (flat w.past) ≡ Refused errno → Turned w (refused w t c ioctl errno) t (Caller c) false
+refuse_turn w t c ioctl errno s lt may planned =
     let j : List Entry = by t (Caller c) (Judge ioctl) ∷ w.past in
     let a : Entry = by t (Caller c) (Answer (Bad errno)) in
     let judged = judge_stands w t c ioctl s.stands in
     let row : is_first_row (plan w.setup ioctl (flat w.past)) (Answer (Bad errno) ∷ []) ≡ true = rw planned refl in
     turn_by w (refused w t c ioctl errno) t (Caller c) (Judge ioctl ∷ Answer (Bad errno) ∷ []) false s lt
     (answer_stands (record w { past = j }) t c (Bad errno) judged lt) refl refl (
-      record { command = command; none_in_progress = s.calm.no_call c; locks_free = no_lock w t c ioctl s.calm },
+      record { command = may.command; none_in_progress = may.none_in_progress; locks_free = may.locks_free },
       (
         (
-          s.calm.no_bracket c,
+          s.calls.no_bracket c,
           subst (λ (o : Option Call). RightAnswer w.setup (Bad errno) o j) (sym (own_call t c ioctl w.past))
               (let p = plan_now w t c ioctl false ∙ planned in rw p refl),
         ),
@@ -180,7 +189,10 @@ refuse_turn w t c ioctl errno s lt command planned =
     )
     row refl
     (quiet_freed (a ∷ j) (quiet_more a j refl (quiet_one t (Caller c) (Judge ioctl) w.past s.new_turn refl)))
-    (record { no_call = λ d. call_over (eqb c d) true (Some (judged_call ioctl w.past false)) (call d w.past) (s.calm.no_call d); no_bracket = s.calm.no_bracket })
+    (calls_after w.setup c w.pagings w.pagings w.past (a ∷ j) s.calls lt
+    (λ d. idle_after w c d (a ∷ j) s.calls lt may.none_in_progress (over_none (eqb c c) (Some (judged_call ioctl w.past false)) (call c w.past) (self c)))
+    (λ u d lu ne. refl) (λ u ne. over_other (eqb c u) (Some (judged_call ioctl w.past false)) (call u w.past) ne)
+    (λ p x h. h) (λ u. refl))
     (λ d k p h. s.due d k p (less_done (eqb c d) (done (Caller d) w.past) k h))
     tt (next_new t)
 
@@ -231,6 +243,7 @@ change_stands w t c r st p =
         gone_are = x.gone_are;
         faults_are = faults_more w.setup.user w.mmu.progress.seq w.setup.vcpus w.faults e w.past (λ j. refl) (λ u. refl) x.faults_are;
       };
+      stores = record { files_are = st.stores.files_are; frames_are = st.stores.frames_are };
       memory = record {
         seats_are = seats_more w.mmu.requests w.setup.vcpus e w.past (λ u. refl) (λ u. refl) m.seats_are;
         buffers_are = buffers_more w.setup.user w.setup.vcpus w.mmu.fills e w.past (λ u. refl) m.buffers_are;
@@ -242,7 +255,6 @@ change_stands w t c r st p =
         generation_is = one_more w.slots.generation (length w.slots.slots) m.generation_is;
         slots_bounded = (subst (IsBounded w.setup.user) (sym made) bounded, m.slots_bounded);
         all_shared = ap (λ (f : Flat). f.attrs) after ∙ m.all_shared;
-        no_folios = ap (λ (f : Flat). f.folios) after ∙ m.no_folios;
       };
     }
   where
@@ -283,8 +295,8 @@ plan_then w t c ioctl effect made =
     ap (λ (f : Flat). plan w.setup ioctl f) (flat_at_keep (length w.past) (by t (Caller c) (Change effect)) (by t (Caller c) (Judge ioctl) ∷ w.past) (omega arith))
     ∙ plan_now w t c ioctl made
 
-pub make_turn : (w : View) (t c : ℕ) (r : Region) → Settled w t → c < w.setup.callers → next_command (orders_of w) (Caller c) w.past ≡ Some (CallCommand (Region2 r)) → IsPlainRegion w.setup.user r → plan w.setup (Region2 r) (flat w.past) ≡ Short (new_slot r false) 0 → Turned w (made w t c r) t (Caller c) false
-make_turn w t c r s lt command plain planned =
+pub make_turn : (w : View) (t c : ℕ) (r : Region) → Settled w t → c < w.setup.callers → MayCall w c (Region2 r) → IsPlainRegion w.setup.user r → plan w.setup (Region2 r) (flat w.past) ≡ Short (new_slot r false) 0 → Turned w (made w t c r) t (Caller c) false
+make_turn w t c r s lt may plain planned =
     let ioctl : Ioctl = Region2 r in
     let effect : Effect = new_slot r false in
     let j : List Entry = by t (Caller c) (Judge ioctl) ∷ w.past in
@@ -299,19 +311,22 @@ make_turn w t c r s lt command plain planned =
     let changes : Changes w.setup (Some (judged_call ioctl w.past false)) None j = (refl, subst (λ (p : Plan). IsDue (length j) (length w.past) p None) (sym p1) refl) in
     turn_by w (made w t c r) t (Caller c) (Judge ioctl ∷ Change effect ∷ Answer (Good 0) ∷ []) false s lt
     (answer_stands (changed w1 t c r) t c (Good 0) st2 lt) refl refl (
-      record { command = command; none_in_progress = s.calm.no_call c; locks_free = no_lock w t c ioctl s.calm },
+      record { command = may.command; none_in_progress = may.none_in_progress; locks_free = may.locks_free },
       (
         (
-          rw (own_call t c ioctl w.past, s.calm.no_bracket c) changes,
+          rw (own_call t c ioctl w.past, s.calls.no_bracket c) changes,
           subst (λ (o : Option Call). RightChange w.setup effect o j) (sym (own_call t c ioctl w.past)) (subst (IsEffect effect) (sym p1) refl),
         ),
-        ((s.calm.no_bracket c, subst (λ (o : Option Call). RightAnswer w.setup (Good 0) o k) (sym (own_changed t c ioctl effect w.past)) (subst (λ (p : Plan). IsAnswer w.setup (Good 0) (judged_call ioctl w.past true) p k) (sym p2) (refl, refl))), tt),
+        ((s.calls.no_bracket c, subst (λ (o : Option Call). RightAnswer w.setup (Good 0) o k) (sym (own_changed t c ioctl effect w.past)) (subst (λ (p : Plan). IsAnswer w.setup (Good 0) (judged_call ioctl w.past true) p k) (sym p2) (refl, refl))), tt),
       ),
     )
     row refl
     (quiet_freed (a ∷ k) (quiet_more a k refl (quiet_more (by t (Caller c) (Change effect)) j refl (quiet_one t (Caller c) (Judge ioctl) w.past s.new_turn refl))))
-    (record { no_call = λ d. changes_over (eqb c d) (Some (judged_call ioctl w.past false)) (call d w.past) (s.calm.no_call d); no_bracket = s.calm.no_bracket })
-    (λ d n p le. absurd (no_more w c d n (done (Caller c) w.past) (s.stands.commanded.one_passes c (done (Caller c) w.past) d n (passes_now w c r command plain) p) refl le))
+    (calls_after w.setup c w.pagings w.pagings w.past (a ∷ k) s.calls lt
+    (λ d. idle_after w c d (a ∷ k) s.calls lt may.none_in_progress (changed_own (eqb c c) (Some (judged_call ioctl w.past false)) (call c w.past) (self c)))
+    (λ u d lu ne. refl) (λ u ne. changed_other (eqb c u) (Some (judged_call ioctl w.past false)) (call u w.past) ne)
+    (pages_same w.setup (flat w.past) (flat (a ∷ k)) (ap (λ (f : Flat). f.files) (after_make w1 t c r st1 plain))) (λ u. refl))
+    (λ d n p le. absurd (no_more w c d n (done (Caller c) w.past) (s.stands.commanded.one_passes c (done (Caller c) w.past) d n (passes_now w c r may.command plain) p) refl le))
     tt (next_new t)
 
 -- what a call comes to

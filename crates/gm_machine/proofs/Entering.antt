@@ -43,6 +43,7 @@ enter_stands w t v st lt =
         gone_are = a.gone_are;
         faults_are = faults_more w.setup.user w.mmu.progress.seq w.setup.vcpus w.faults e w.past (λ i. refl) (λ u. refl) a.faults_are;
       };
+      stores = record { files_are = st.stores.files_are; frames_are = st.stores.frames_are };
       memory = record {
         seats_are = seats_set w.mmu.requests w.setup.vcpus v (record { inside = true; done = (seat_of w.mmu.requests v).done }) e w.past st.sizes.seat_count lt m.seats_are
             (record { is_inside = sym (cond-true (eqb v v) true (inside v w.past) (self v)); is_pending = old.is_pending; so_far = old.so_far })
@@ -56,7 +57,6 @@ enter_stands w t v st lt =
         generation_is = m.generation_is;
         slots_bounded = m.slots_bounded;
         all_shared = m.all_shared;
-        no_folios = m.no_folios;
       };
     }
 
@@ -64,7 +64,7 @@ pub enter_turn : (w : View) (t v : ℕ) → Settled w t → v < w.setup.vcpus �
 enter_turn w t v s lt out nf np wait =
     one_entry w (entered w t v) t v Enter false s lt (enter_stands w t v s.stands lt) refl refl
     (record { outside = out; no_fault = nf; flushed_before = np; waiting = wait })
-    refl refl refl (record { no_call = s.calm.no_call; no_bracket = s.calm.no_bracket }) s.due tt
+    refl refl refl (record { pagings_are = s.calls.pagings_are; none_beyond = s.calls.none_beyond; no_bracket = s.calls.no_bracket }) s.due tt
 
 -- a flush
 
@@ -92,6 +92,7 @@ flush_stands w t v st lt =
         gone_are = a.gone_are;
         faults_are = faults_more w.setup.user w.mmu.progress.seq w.setup.vcpus w.faults e w.past (λ i. refl) (λ u. refl) a.faults_are;
       };
+      stores = record { files_are = st.stores.files_are; frames_are = st.stores.frames_are };
       memory = record {
         seats_are = seats_set w.mmu.requests w.setup.vcpus v (record { inside = (seat_of w.mmu.requests v).inside; done = w.mmu.requests.asked }) e w.past st.sizes.seat_count lt m.seats_are
             (record { is_inside = old.is_inside; is_pending = not_less w.mmu.requests.asked ∙ sym (none_pending_after t v w.past); so_far = omega arith })
@@ -107,14 +108,13 @@ flush_stands w t v st lt =
         generation_is = m.generation_is;
         slots_bounded = m.slots_bounded;
         all_shared = m.all_shared;
-        no_folios = m.no_folios;
       };
     }
 
 pub flush_turn : (w : View) (t v : ℕ) → Settled w t → v < w.setup.vcpus → pending v w.past ≡ true → Turned w (flushed_out w t v) t (Vcpu v) true
 flush_turn w t v s lt p =
     one_entry w (flushed_out w t v) t v Flush true s lt (flush_stands w t v s.stands lt) refl refl p
-    refl refl refl (record { no_call = s.calm.no_call; no_bracket = s.calm.no_bracket }) s.due tt
+    refl refl refl (record { pagings_are = s.calls.pagings_are; none_beyond = s.calls.none_beyond; no_bracket = s.calls.no_bracket }) s.due tt
 
 -- the memory unit after a flush, from what its parts became
 pub flushed_mmu : (m m2 : Serving) (fs : List (List Fill)) (r : Requests) → m2.fills ≡ fs → m2.requests ≡ r → m2 ≡ record m { fills = m2.fills; requests = m2.requests } → m2 ≡ record m { fills = fs; requests = r }
@@ -130,7 +130,7 @@ flush_enter_turn w t v s lt out nf p wait =
     (p, (record { outside = out; no_fault = nf; flushed_before = np; waiting = wait }, tt))
     refl refl
     (quiet_freed (by t (Vcpu v) Enter ∷ f) (quiet_more (by t (Vcpu v) Enter) f refl (quiet_one t (Vcpu v) Flush w.past s.new_turn refl)))
-    (record { no_call = s.calm.no_call; no_bracket = s.calm.no_bracket }) s.due tt (next_new t)
+    (record { pagings_are = s.calls.pagings_are; none_beyond = s.calls.none_beyond; no_bracket = s.calls.no_bracket }) s.due tt (next_new t)
 
 -- the end
 
@@ -152,6 +152,7 @@ leave_stands w t v st lt =
         gone_are = gone_more w t (Vcpu v) st.sizes a.gone_are;
         faults_are = faults_more w.setup.user w.mmu.progress.seq w.setup.vcpus w.faults e w.past (λ i. refl) (λ u. refl) a.faults_are;
       };
+      stores = record { files_are = st.stores.files_are; frames_are = st.stores.frames_are };
       memory = record {
         seats_are = seats_set w.mmu.requests w.setup.vcpus v (record { inside = false; done = (seat_of w.mmu.requests v).done }) e w.past st.sizes.seat_count lt m.seats_are
             (record { is_inside = sym (cond-true (eqb v v) false (inside v w.past) (self v)); is_pending = old.is_pending; so_far = old.so_far })
@@ -165,11 +166,10 @@ leave_stands w t v st lt =
         generation_is = m.generation_is;
         slots_bounded = m.slots_bounded;
         all_shared = m.all_shared;
-        no_folios = m.no_folios;
       };
     }
 
 pub leave_turn : (w : View) (t v : ℕ) → Settled w t → v < w.setup.vcpus → gone (Vcpu v) w.past ≡ false → next_command (orders_of w) (Vcpu v) w.past ≡ None → Turned w (left w t v) t (Vcpu v) false
 leave_turn w t v s lt g n =
     one_entry w (left w t v) t v Gone false s lt (leave_stands w t v s.stands lt) refl refl (record { none_left = n; once = g })
-    refl refl refl (record { no_call = s.calm.no_call; no_bracket = s.calm.no_bracket }) s.due tt
+    refl refl refl (record { pagings_are = s.calls.pagings_are; none_beyond = s.calls.none_beyond; no_bracket = s.calls.no_bracket }) s.due tt

@@ -1,6 +1,6 @@
 -- The turns of a fault in flight: it misses, samples, retries.
-use Rattle.std.proofs.Common.{◌≡◌, ℕ, ◌<◌, ◌||◌, List, [], ◌∷◌, Bool, true, false, not, length, get_or, set, suc, Option, Some, None, arith, subst, sym, ◌∙◌, ap, refl, eqb, inr}
-use Rattle.std.proofs.lemmas.Bool.{cond-true, cond-false}
+use Rattle.std.proofs.Common.{◌≡◌, ℕ, ◌<◌, ◌||◌, List, [], ◌∷◌, Bool, true, false, not, length, get_or, set, suc, Option, Some, None, arith, subst, sym, ◌∙◌, ap, refl, eqb, inl, inr}
+use Rattle.std.proofs.lemmas.Bool.{cases_Bool, cond-true, cond-false, eqb-true}
 use Rattle.std.proofs.lemmas.List.{length-set}
 use Rattle.gm_base.specs.Aim.{Aim}
 use Rattle.gm_base.specs.Extent.{Extent}
@@ -8,19 +8,22 @@ use Rattle.gm_base.specs.declared.script.Command.TheVariants.{Touch as TouchComm
 use Rattle.gm_base.specs.declared.values.Actor.TheVariants.{Vcpu}
 use Rattle.gm_base.specs.declared.values.Kind.TheVariants.{Shared}
 use Rattle.gm_fault.specs.declared.ticket.Ticket.{Ticket}
-use Rattle.gm_flat.specs.FlatState.{Flat, FolioState, is_live}
-use Rattle.gm_flat.specs.Histories.{Fault, Faulting, NoFault, fault, with_sample}
+use Rattle.gm_flat.specs.Histories.{Fault, Faulting, Gotten, NoFault, Seen, before_turn, fault, same_turn, with_sample}
 use Rattle.gm_flat.specs.Invalidation.{ended, hull, in_hull, stale}
 use Rattle.gm_flat.specs.Mappings.{fills, inside}
-use Rattle.gm_flat.specs.Replay.{flat}
+use Rattle.gm_flat.specs.RightLives.{FaultHolds, IsOfFolio}
 use Rattle.gm_flat.specs.RightOrder.{next_command}
 use Rattle.gm_flat.specs.declared.effect.Backing.{Backing}
+use Rattle.gm_flat.specs.declared.effect.Backing.TheVariants.{User as InUser, Folio as InFolio}
 use Rattle.gm_flat.specs.declared.entry.Entry.{Entry}
 use Rattle.gm_flat.specs.declared.entry.What.TheVariants.{Miss, Retry, Sample}
 use Rattle.gm_flat.specs.declared.views.Sampled.{Sampled}
 use Rattle.gm_inval.specs.Range.{open_range, range_holds}
 use Rattle.gm_laws.proofs.Kit.{by}
+use Rattle.gm_laws.proofs.TurnsKeep.{new_turn}
 use Rattle.gm_laws.specs.May.{MayRetry}
+use Rattle.gm_laws.specs.Ruled.{AllFreed, IsUsed}
+use Rattle.gm_laws.specs.Turns.{IsNewTurn}
 use Rattle.gm_mmu.specs.Served.{fills_of, first_of, served, walked}
 use Rattle.gm_table.specs.Leaves.{leaf_over}
 use Rattle.gm_tlb.specs.Fills.{latest}
@@ -35,7 +38,7 @@ use Rattle.gm_machine.proofs.Quiet.{buffers_more, memory_quiet, seats_set, sizes
 use Rattle.gm_machine.proofs.Stages.{holding, not_ended, sampling}
 use Rattle.gm_machine.specs.Settled.{Settled, Turned}
 use Rattle.gm_machine.specs.Stands.{Stands}
-use Rattle.gm_machine.specs.Ties.{FaultIs, SampleIs}
+use Rattle.gm_machine.specs.Ties.{FaultIs, IsUserPage, SampleIs}
 use Rattle.gm_machine.specs.Views.{View, orders_of}
 
 -- a miss
@@ -64,6 +67,7 @@ miss_stands w t v a st lt shared =
             (record { access_is = refl; shared = shared; missed_so_far = omega arith; stage = tt })
             (λ u ne. cond-false (eqb v u) (Faulting a (suc (length w.past)) None None None) (fault u w.past) ne);
       };
+      stores = record { files_are = st.stores.files_are; frames_are = st.stores.frames_are };
       memory = record {
         seats_are = seats_set w.mmu.requests w.setup.vcpus v (record { inside = false; done = (seat_of w.mmu.requests v).done }) e w.past st.sizes.seat_count lt m.seats_are
             (record { is_inside = sym (cond-true (eqb v v) false (inside v w.past) (self v)); is_pending = old.is_pending; so_far = old.so_far })
@@ -77,7 +81,6 @@ miss_stands w t v a st lt shared =
         generation_is = m.generation_is;
         slots_bounded = m.slots_bounded;
         all_shared = m.all_shared;
-        no_folios = m.no_folios;
       };
     }
 
@@ -98,7 +101,7 @@ miss_turn w t v a s lt in_guest command shared unserved =
       };
       command = command;
     })
-    refl refl refl (record { no_call = s.calm.no_call; no_bracket = s.calm.no_bracket }) s.due tt
+    refl refl refl (record { pagings_are = s.calls.pagings_are; none_beyond = s.calls.none_beyond; no_bracket = s.calls.no_bracket }) s.due tt
 
 -- a sample
 
@@ -136,10 +139,11 @@ sample_turn w t v k s lt h n =
             (cond-true (eqb v v) (with_sample (length w.past) (fault v w.past)) (fault v w.past) (self v)) p.after
             (λ u ne. cond-false (eqb v u) (with_sample (length w.past) (fault u w.past)) (fault u w.past) ne);
       };
+      stores = record { files_are = st.stores.files_are; frames_are = st.stores.frames_are };
       memory = memory_quiet w e (sampled w t v k).faults w.ended st.memory (λ u. refl) (λ u. refl) (λ u. refl) refl refl refl (λ page word. refl) refl;
     } in
     one_entry w (sampled w t v k) t v (Sample (length w.past)) false s lt st2 refl refl (p.is_missed, p.right)
-    refl refl refl (record { no_call = s.calm.no_call; no_bracket = s.calm.no_bracket }) s.due (refl, refl)
+    refl refl refl (record { pagings_are = s.calls.pagings_are; none_beyond = s.calls.none_beyond; no_bracket = s.calls.no_bracket }) s.due (refl, refl)
 
 -- a retry
 
@@ -162,8 +166,26 @@ stale_same w y sample page st i =
     stale_parts (range_holds (open_range w.mmu.progress) page) (not (eqb w.mmu.progress.seq y.seq)) (ended sample w.past) (in_hull page (hull w.past))
     (holds_same page (open_range w.mmu.progress) ∙ ap (in_hull page) st.memory.range_is) (sym i.ended_is)
 
-no_live : (f : Flat) (serial : ℕ) → f.folios ≡ [] → is_live serial f.folios ≡ false
-no_live f serial h = ap (λ (xs : List FolioState). is_live serial xs) h
+-- a fault that got a user page holds no folio
+holds_none : (serial : ℕ) (a : Aim) (m s : ℕ) (l : Seen) (g : Gotten) → IsUserPage g.backing → FaultHolds serial (Faulting a m (Some s) (Some l) (Some g)) → ⊥
+holds_none serial a m s l g u h = no_folio g.backing u h
+  where
+    no_folio : (b : Backing) → IsUserPage b → IsOfFolio serial b → ⊥
+    no_folio (InUser page) u h = h
+    no_folio (InFolio folio) u h = u
+
+-- so its retry frees nothing
+retry_freed : (t v : ℕ) (past : List Entry) (x : Fault) → IsNewTurn t past → fault v past ≡ x → ((serial : ℕ) → FaultHolds serial x → ⊥) → AllFreed (by t (Vcpu v) Retry ∷ past)
+retry_freed t v past x new is none loose serial used =
+    let e : Entry = by t (Vcpu v) Retry in
+    let before : IsUsed serial past = subst (IsUsed serial) (cond-false (same_turn e past) (before_turn past) past (new_turn t (Vcpu v) Retry past new)) used in
+    elim before [
+      | inl c ↦ inl (inl c)
+      | inr h ↦ elim (cases_Bool (eqb v h.0)) [
+        | inl same ↦ absurd (none serial (subst (λ (z : Fault). FaultHolds serial z) (ap (λ (u : ℕ). fault u past) (sym (eqb-true v h.0 same)) ∙ is) h.1))
+        | inr apart ↦ inl (inr (h.0, subst (λ (z : Fault). FaultHolds serial z) (sym (cond-false (eqb v h.0) NoFault (fault h.0 past) apart)) h.1))
+      ]
+    ]
 
 pub retry_turn : (w : View) (t v : ℕ) (k : Ticket) (y : Sampled) (b : Backing) → Settled w t → v < w.setup.vcpus → get_or w.faults v None ≡ Some k → k.sampled ≡ Some y → k.backing ≡ Some b → (range_holds (open_range w.mmu.progress) k.access.page || not (eqb w.mmu.progress.seq y.seq)) ≡ true → Turned w (retried w t v) t (Vcpu v) false
 retry_turn w t v k y b s lt h sy kb is_stale =
@@ -184,12 +206,13 @@ retry_turn w t v k y b s lt h sy kb is_stale =
             (cond-true (eqb v v) NoFault (fault v w.past) (self v)) tt
             (λ u ne. cond-false (eqb v u) NoFault (fault u w.past) ne);
       };
+      stores = record { files_are = st.stores.files_are; frames_are = st.stores.frames_are };
       memory = memory_quiet w e (retried w t v).faults w.ended st.memory (λ u. refl) (λ u. refl) (λ u. refl) refl refl refl (λ page word. refl) refl;
     } in
     one_by w (retried w t v) t (Vcpu v) Retry false s lt st2 refl refl
     (subst (MayRetry w.past) (sym p.fault_is) now_stale)
-    refl refl (λ loose serial used. inr (no_live (flat w.past) serial st.memory.no_folios))
-    (record { no_call = s.calm.no_call; no_bracket = s.calm.no_bracket }) s.due tt
+    refl refl (retry_freed t v w.past _ s.new_turn p.fault_is (λ serial. holds_none serial p.access p.missed p.sample p.seen p.gotten p.user_page))
+    (record { pagings_are = s.calls.pagings_are; none_beyond = s.calls.none_beyond; no_bracket = s.calls.no_bracket }) s.due tt
 
 without : (user q : ℕ) (past : List Entry) (x : Fault) → FaultIs user q past None x → x ≡ NoFault
 without user q past NoFault h = refl

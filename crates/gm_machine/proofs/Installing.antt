@@ -161,6 +161,7 @@ install_turn w t v k y b mmu s lt h sy kb fresh i =
             (cond-true (eqb v v) NoFault (fault v w.past) (self v)) tt
             (λ u ne. cond-false (eqb v u) NoFault (fault u w.past) ne));
       };
+      stores = record { files_are = st.stores.files_are; frames_are = st.stores.frames_are };
       memory = record {
         seats_are = subst (λ (r : Requests). SeatsAre r w.setup.vcpus (e ∷ w.past)) (sym (ap (λ (z : Serving). z.requests) same)) (seats_more w.mmu.requests w.setup.vcpus e w.past (λ u. refl) (λ u. refl) m.seats_are);
         buffers_are = subst (λ (bs : List (List Fill)). BuffersAre w.setup.user w.setup.vcpus bs (e ∷ w.past)) (sym (ap (λ (z : Serving). z.fills) same)) (buffers_more w.setup.user w.setup.vcpus w.mmu.fills e w.past (λ u. refl) m.buffers_are);
@@ -172,9 +173,8 @@ install_turn w t v k y b mmu s lt h sy kb fresh i =
         generation_is = m.generation_is;
         slots_bounded = m.slots_bounded;
         all_shared = m.all_shared;
-        no_folios = m.no_folios;
       };
     } in
     one_entry w (installed w t v page mmu) t v (Install page Small) false s lt st2 refl refl
     (subst (MayInstall page w.past) (sym p.fault_is) (ap (λ (a : Aim). a.page) p.access_is, not_stale), not_block w page st)
-    refl refl refl (record { no_call = s.calm.no_call; no_bracket = s.calm.no_bracket }) s.due tt
+    refl refl refl (record { pagings_are = s.calls.pagings_are; none_beyond = s.calls.none_beyond; no_bracket = s.calls.no_bracket }) s.due tt

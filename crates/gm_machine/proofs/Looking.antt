@@ -11,7 +11,7 @@ use Rattle.gm_fault.specs.declared.ticket.Ticket.{Ticket}
 use Rattle.gm_flat.specs.Attribute.{attr_of}
 use Rattle.gm_flat.specs.Effects.{Addition, add}
 use Rattle.gm_flat.specs.FlatState.{AttrCall, Flat}
-use Rattle.gm_flat.specs.Histories.{Fault, Faulting, Gotten, NoFault, Seen, done, fault, with_get, with_look}
+use Rattle.gm_flat.specs.Histories.{Fault, Faulting, Gotten, NoFault, Seen, call, done, fault, with_get, with_look}
 use Rattle.gm_flat.specs.Replay.{States, flat, get_adds, states}
 use Rattle.gm_flat.specs.RightInstall.{RightGet}
 use Rattle.gm_flat.specs.RightLook.{RightExit, file_of, id_of}
@@ -37,7 +37,7 @@ use Rattle.gm_machine.proofs.Sights.{exit_right, get_right, looked_now, no_file,
 use Rattle.gm_machine.proofs.Stages.{looking, seeing}
 use Rattle.gm_machine.specs.Settled.{Settled, Turned}
 use Rattle.gm_machine.specs.Stands.{Stands}
-use Rattle.gm_machine.specs.Ties.{IsSightOf, LookIs, SampleIs, StageIs}
+use Rattle.gm_machine.specs.Ties.{IsSightOf, FilesAre, FramesAre, IsUserPage, LookIs, PagingIs, SampleIs, StageIs}
 use Rattle.gm_machine.specs.Views.{View, orders_of}
 
 -- a look
@@ -92,10 +92,11 @@ look_turn w t v k s lt h n u =
             (cond-true (eqb v v) (with_look (seen_of w k) (fault v w.past)) (fault v w.past) (self v)) p.after
             (λ r ne. cond-false (eqb v r) (with_look (seen_of w k) (fault r w.past)) (fault r w.past) ne);
       };
+      stores = record { files_are = st.stores.files_are; frames_are = st.stores.frames_are };
       memory = memory_quiet w e (looked w t v k).faults w.ended m (λ r. refl) (λ r. refl) (λ r. refl) refl refl refl (λ q word. refl) refl;
     } in
     one_entry w (looked w t v k) t v (Look (length w.past) (id_of (look_of w k).slot) Shared (file_of (look_of w k).slot)) false s lt st2 refl refl (p.is_sampled, p.right)
-    refl refl refl (record { no_call = s.calm.no_call; no_bracket = s.calm.no_bracket }) s.due (refl, refl)
+    refl refl refl (record { pagings_are = s.calls.pagings_are; none_beyond = s.calls.none_beyond; no_bracket = s.calls.no_bracket }) s.due (refl, refl)
 
 -- the slot that a fault has looked up lies over its page
 over_page : (user page : ℕ) (o : Option SlotView) → IfSome o (IsSightOf user page) → IfSome o (IsSlotOver page)
@@ -134,16 +135,17 @@ exit_turn w t v k y why s lt h l n r =
             (cond-true (eqb v v) NoFault (fault v w.past) (self v)) tt
             (λ u ne. cond-false (eqb v u) NoFault (fault u w.past) ne);
       };
+      stores = record { files_are = st.stores.files_are; frames_are = st.stores.frames_are };
       memory = memory_quiet w e (exited w t v why).faults (exited w t v why).ended st.memory (λ u. refl) (λ u. refl) (λ u. refl) refl refl refl (λ page word. refl) refl;
     } in
     one_entry w (exited w t v why) t v (Left why) false s lt st2 refl refl
     (subst (λ (f : Fault). IsLooked f × RightExit w.setup.frames why w.past f) (sym p.fault_is)
     (tt, exit_right w.setup.frames why p.access p.seen w.past w.setup.user y p.shared p.look_is (subst (λ (a : Aim). route_of y a ≡ Exit why) p.access_is r)))
-    refl refl refl (record { no_call = s.calm.no_call; no_bracket = s.calm.no_bracket }) s.due tt
+    refl refl refl (record { pagings_are = s.calls.pagings_are; none_beyond = s.calls.none_beyond; no_bracket = s.calls.no_bracket }) s.due tt
 
 -- a get of a user page
 
-got_stage : (user q : ℕ) (past : List Entry) (page : ℕ) (x : Option Sampled) (y : Option Looked) (sampled : Sampled) (look : Looked) (b : Backing) (s : ℕ) (l : Seen) (g : Gotten) → x ≡ Some sampled → y ≡ Some look → SampleIs q past sampled s × LookIs user past page look l × (g.backing ≡ b) → StageIs user q past page x y (Some b) (Some s) (Some l) (Some g)
+got_stage : (user q : ℕ) (past : List Entry) (page : ℕ) (x : Option Sampled) (y : Option Looked) (sampled : Sampled) (look : Looked) (b : Backing) (s : ℕ) (l : Seen) (g : Gotten) → x ≡ Some sampled → y ≡ Some look → SampleIs q past sampled s × LookIs user past page look l × (g.backing ≡ b) × IsUserPage b → StageIs user q past page x y (Some b) (Some s) (Some l) (Some g)
 got_stage user q past page x y sampled look b s l g e f h = rw (e, f) h
 
 abbrev pub got : View → ℕ → ℕ → Ticket → ℕ → View
@@ -164,7 +166,7 @@ get_turn w t v k y page s lt h l n r =
     let g : Gotten = record { after = suc (length w.past); backing = InUser page } in
     let next : Fault = Faulting p.access p.missed (Some p.sample) (Some p.seen) (Some g) in
     let stage : StageIs w.setup.user w.mmu.progress.seq (e ∷ w.past) p.access.page k.sampled k.looked (Some (InUser page)) (Some p.sample) (Some p.seen) (Some g) =
-    got_stage w.setup.user w.mmu.progress.seq (e ∷ w.past) p.access.page k.sampled k.looked p.sampled y (InUser page) p.sample p.seen g p.sampled_is l (sample_more w.mmu.progress.seq e w.past p.sampled p.sample (λ i. refl) p.sample_is, look_more w.setup.user e w.past p.access.page y p.seen p.look_is, refl) in
+    got_stage w.setup.user w.mmu.progress.seq (e ∷ w.past) p.access.page k.sampled k.looked p.sampled y (InUser page) p.sample p.seen g p.sampled_is l (sample_more w.mmu.progress.seq e w.past p.sampled p.sample (λ i. refl) p.sample_is, look_more w.setup.user e w.past p.access.page y p.seen p.look_is, refl, tt) in
     let missed_le = p.missed_so_far in
     let same : flat (e ∷ w.past) ≡ flat w.past = ap (λ (d : Option Addition). add d (flat w.past)) (adds_none page (fault v w.past) (states w.past)) in
     let st2 : Stands (got w t v k page) = record {
@@ -179,6 +181,7 @@ get_turn w t v k y page s lt h l n r =
             (record { access_is = p.access_is; shared = p.shared; missed_so_far = omega arith; stage = stage })
             (λ u ne. cond-false (eqb v u) (with_get g (fault u w.past)) (fault u w.past) ne);
       };
+      stores = record { files_are = subst (FilesAre w.files) (sym same) st.stores.files_are; frames_are = subst (FramesAre w.frames w.setup.frames) (sym same) st.stores.frames_are };
       memory = memory_quiet w e (got w t v k page).faults w.ended st.memory (λ u. refl) (λ u. refl) (λ u. refl) refl refl refl (λ q word. refl)
           same;
     } in
@@ -186,4 +189,4 @@ get_turn w t v k y page s lt h l n r =
     (tt, get_right page p.access p.seen w.past w.setup.user y p.shared p.look_is (subst (λ (a : Aim). route_of y a ≡ User page) p.access_is r)) in
     one_entry w (got w t v k page) t v (Get (InUser page) 0) false s lt st2 refl refl
     (may.0, may.1, (λ z. absurd (omega arith)))
-    refl refl refl (record { no_call = s.calm.no_call; no_bracket = s.calm.no_bracket }) (λ c n p d. ap (λ (f : Flat). f.slots) same ∙ s.due c n p d) tt
+    refl refl refl (record { pagings_are = λ c d lc. subst (λ (f : Flat). PagingIs w.setup (get_or w.pagings c d) (call c w.past) f) (sym same) (s.calls.pagings_are c d lc); none_beyond = s.calls.none_beyond; no_bracket = s.calls.no_bracket }) (λ c n p d. ap (λ (f : Flat). f.slots) same ∙ s.due c n p d) tt

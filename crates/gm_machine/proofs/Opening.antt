@@ -1,12 +1,16 @@
 -- A new machine.
-use Rattle.std.proofs.Common.{◌≡◌, ℕ, ◌<◌, List, [], false, length, get_or, replicate, Option, None, arith, ◌∙◌, ap, refl}
+use Rattle.std.proofs.Common.{◌≡◌, ℕ, ◌<◌, List, [], false, length, get_or, replicate, Option, None, true, ltb, arith, ◌∙◌, ap, refl}
 use Rattle.std.proofs.lemmas.Bool.{both_ways}
+use Rattle.std.proofs.lemmas.Bool.Decides.{nat_tests}
 use Rattle.std.proofs.lemmas.List.{get_or-replicate, length-replicate}
 use Rattle.gm_base.specs.Scripts.{Schedule}
 use Rattle.gm_fault.specs.declared.ticket.Ticket.{Ticket}
+use Rattle.gm_flat.specs.FlatState.{start}
 use Rattle.gm_flat.specs.Histories.{NoFault}
 use Rattle.gm_laws.specs.Ruled.{AllFreed}
 use Rattle.gm_mmu.specs.Served.{Serving}
+use Rattle.gm_pool.specs.Pools.{Frames, use_in, is_free as frame_is_free}
+use Rattle.gm_pool.specs.declared.uses.Use.{Use}
 use Rattle.gm_tlb.specs.Requests.{Requests, outside}
 use Rattle.gm_tlb.specs.declared.ring.Seat.{Seat}
 use Rattle.gm_tlb.specs.declared.tlb.Fill.{Fill}
@@ -16,8 +20,9 @@ use Rattle.gm_machine.proofs.Lists.{replicate_each}
 use Rattle.gm_machine.specs.Flags.{no_flags}
 use Rattle.gm_machine.specs.Settled.{Settled}
 use Rattle.gm_machine.specs.Stands.{Stands}
-use Rattle.gm_machine.specs.Ties.{FaultIs, FillsAre, SeatIs}
+use Rattle.gm_machine.specs.Ties.{FaultIs, FillsAre, PagingIs, SeatIs}
 use Rattle.gm_machine.specs.Views.{View}
+use Rattle.gm_machine.specs.declared.paging.Paging.{Paging}
 use Rattle.gm_script.specs.Built.{IsEven}
 
 pub record IsFreshMmu (vcpus : ℕ) (m : Serving) : Type 0 where
@@ -26,8 +31,8 @@ pub record IsFreshMmu (vcpus : ℕ) (m : Serving) : Type 0 where
   pub requests : m.requests ≡ record { asked = 0; seats = replicate vcpus outside }
   pub progress : m.progress ≡ record { seq = 0; count = 0; kept = None }
 
-abbrev pub opening : Schedule → Serving → List (List ℕ) → View
-opening s mmu user = record {
+abbrev pub opening : Schedule → Serving → List (List ℕ) → Frames → View
+opening s mmu user frames = record {
   setup = s.orders.setup;
   vcpus = s.orders.vcpus;
   callers = s.orders.callers;
@@ -35,20 +40,32 @@ opening s mmu user = record {
   mmu = mmu;
   slots = record { slots = []; generation = 0 };
   user = user;
+  frames = frames;
+  files = [];
   faults = replicate s.orders.setup.vcpus None;
   ended = replicate s.orders.setup.vcpus 0;
   answered = replicate s.orders.setup.callers 0;
+  pagings = replicate s.orders.setup.callers None;
   gone = no_flags s.orders.setup.vcpus s.orders.setup.callers;
 }
 
 seat_open : (n v : ℕ) (d : Seat) → v < n → SeatIs (get_or (replicate n outside) v d) 0 v []
 seat_open n v d lt = replicate_each (λ (u : ℕ) (x : Seat). SeatIs x 0 u []) n outside (λ u. record { is_inside = refl; is_pending = refl; so_far = omega arith }) v d lt
 
-pub opens : (s : Schedule) (mmu : Serving) (user : List (List ℕ)) → IsEven s → IsFreshMmu s.orders.setup.vcpus mmu → length user ≡ s.orders.setup.user → ((page word : ℕ) → word_in user page word ≡ 0) → Settled (opening s mmu user) 1
-opens s mmu user even m len zero_words =
+free_open : (n frame : ℕ) → frame < n → frame_is_free (record { uses = replicate n None; next = 0 }) frame ≡ true
+free_open n frame lt =
+    let a : ltb frame (length (replicate {A = Option Use} n None)) ≡ true = below frame n (length (replicate {A = Option Use} n None)) (length-replicate n None) lt in
+    let b : use_in (replicate n None) frame ≡ None = get_or-replicate n frame None None lt in
+    rw (a, b) refl
+  where
+    below : (k n m : ℕ) → m ≡ n → k < n → ltb k m ≡ true
+    below k n m e h = grind (arith, nat_tests)
+
+pub opens : (s : Schedule) (mmu : Serving) (user : List (List ℕ)) (frames : Frames) → IsEven s → IsFreshMmu s.orders.setup.vcpus mmu → length user ≡ s.orders.setup.user → ((page word : ℕ) → word_in user page word ≡ 0) → frames ≡ record { uses = replicate s.orders.setup.frames None; next = 0 } → Settled (opening s mmu user frames) 1
+opens s mmu user frames even m len zero_words fresh =
     let v = s.orders.setup.vcpus in
     let c = s.orders.setup.callers in
-    let stands : Stands (opening s mmu user) = record {
+    let stands : Stands (opening s mmu user frames) = record {
       sizes = record {
         vcpu_lists = even.vcpus;
         caller_lists = even.callers;
@@ -57,18 +74,23 @@ opens s mmu user even m len zero_words =
         buffer_count = ap (λ (fs : List (List Fill)). length fs) m.fills ∙ length-replicate v [];
         ended_count = length-replicate v 0;
         answered_count = length-replicate c 0;
+        paging_count = length-replicate c None;
         gone_vcpus = length-replicate v false;
         gone_callers = length-replicate c false;
         bank = len;
         no_blocks = even.setup.huge;
         user_small = even.setup.user;
       };
-      commanded = record { touches = even.touches; calls = even.calls; one_passes = even.one_passes };
+      commanded = record { touches = even.touches; calls = even.calls; one_region = even.one_region };
       actors = record {
         ended_are = λ u d lt. get_or-replicate v u 0 d lt;
         answered_are = λ u d lt. get_or-replicate c u 0 d lt;
         gone_are = λ a k. flag_of-no_flags v c a;
         faults_are = λ u d lt. replicate_each (λ (n : ℕ) (x : Option Ticket). FaultIs s.orders.setup.user mmu.progress.seq [] x NoFault) v None (λ n. tt) u d lt;
+      };
+      stores = record {
+        files_are = record { count_is = refl; each = λ k d lt. absurd (omega arith); none_beyond = λ k h. refl; nothing_beyond = λ k i h. refl };
+        frames_are = rw fresh (record { count_is = length-replicate s.orders.setup.frames None; next_is = refl; free_are = λ k lt. free_open s.orders.setup.frames k lt });
       };
       memory = record {
         seats_are = rw m.requests (λ u d lt. seat_open v u d lt);
@@ -81,12 +103,11 @@ opens s mmu user even m len zero_words =
         generation_is = refl;
         slots_bounded = tt;
         all_shared = refl;
-        no_folios = refl;
       };
     } in
     record {
       stands = stands;
-      calm = record { no_call = λ n. refl; no_bracket = λ n. refl };
+      calls = record { pagings_are = λ u d lt. replicate_each (λ (n : ℕ) (x : Option Paging). PagingIs s.orders.setup x None start) c None (λ n. tt) u d lt; none_beyond = λ n h. refl; no_bracket = λ n. refl };
       due = λ n k p h. refl;
       ruled = record { follows = tt; row = tt; freed = nothing_loose };
       new_turn = omega arith;

@@ -33,6 +33,7 @@ sizes_kept w past mmu slots user faults ended answered gone s a b c d e f g h = 
   buffer_count = b ∙ s.buffer_count;
   ended_count = e ∙ s.ended_count;
   answered_count = f ∙ s.answered_count;
+  paging_count = s.paging_count;
   gone_vcpus = g ∙ s.gone_vcpus;
   gone_callers = h ∙ s.gone_callers;
   bank = c ∙ s.bank;
@@ -75,7 +76,6 @@ memory_quiet w e faults ended m i p f l c h x g = record {
   generation_is = m.generation_is;
   slots_bounded = m.slots_bounded;
   all_shared = ap (λ (y : Flat). y.attrs) g ∙ m.all_shared;
-  no_folios = ap (λ (y : Flat). y.folios) g ∙ m.no_folios;
 }
 
 -- the count of a vCPU whose command is ended

@@ -1,5 +1,5 @@
 -- How far a fault in flight is, and what it is one entry later.
-use Rattle.std.proofs.Common.{◌≡◌, ℕ, ◌<◌, ◌≤◌, List, [], ◌∷◌, Bool, false, length, suc, Option, Some, None, arith, subst, ◌∙◌, refl, leb}
+use Rattle.std.proofs.Common.{◌≡◌, ℕ, ◌<◌, ◌≤◌, List, [], ◌∷◌, Bool, false, length, suc, Option, Some, None, arith, subst, sym, ◌∙◌, refl, leb}
 use Rattle.std.proofs.lemmas.Bool.{lt-leb, or_from}
 use Rattle.gm_base.specs.Aim.{Aim}
 use Rattle.gm_base.specs.declared.values.Kind.TheVariants.{Shared}
@@ -15,7 +15,7 @@ use Rattle.gm_flat.specs.declared.entry.What.TheVariants.{End}
 use Rattle.gm_flat.specs.declared.views.Looked.{Looked}
 use Rattle.gm_flat.specs.declared.views.Sampled.{Sampled}
 use Rattle.gm_machine.proofs.Flights.{IsNoEnd, sample_more}
-use Rattle.gm_machine.specs.Ties.{FaultIs, LookIs, SampleIs, StageIs}
+use Rattle.gm_machine.specs.Ties.{FaultIs, IsUserPage, LookIs, SampleIs, StageIs}
 
 not_ended_step : (i : ℕ) (w : What) (n : ℕ) (x : Bool) → n < i → x ≡ false → ended_step i w n x ≡ false
 not_ended_step i End n x h e = or_from (leb i n) x (lt-leb i n h) e
@@ -134,6 +134,7 @@ pub record Holding (user q : ℕ) (past : List Entry) (t : Ticket) (y : Sampled)
   pub shared : access.kind ≡ Shared
   pub sample_is : SampleIs q past y sample
   pub backing_is : gotten.backing ≡ b
+  pub user_page : IsUserPage gotten.backing
 
 got_stage : (user q : ℕ) (past : List Entry) (t : Ticket) (a : Aim) (m : ℕ) (x : Option Sampled) (y : Option Looked) (b : Option Backing) (s : Option ℕ) (l : Option Seen) (g : Option Gotten) → t.access ≡ a → a.kind ≡ Shared → StageIs user q past a.page x y b s l g → (z : Sampled) (c : Backing) → x ≡ Some z → b ≡ Some c → Holding user q past t z c (Faulting a m s l g)
 got_stage user q past t a m None None None None None None ac sh k z c h n = absurd (cc)
@@ -153,6 +154,7 @@ got_stage user q past t a m (Some x) (Some y) (Some b) (Some s) (Some l) (Some g
       shared = sh;
       sample_is = subst (λ (w : Sampled). SampleIs q past w s) e k.0;
       backing_is = k.2 ∙ f;
+      user_page = subst IsUserPage (sym k.2) k.3;
     }
 got_stage user q past t a m x y b s l g ac sh k z c h n = absurd k
 

@@ -31,6 +31,7 @@ roomier_stands w n st =
       sizes = sizes_kept w w.past (roomier w n).mmu w.slots w.user w.faults w.ended w.answered w.gone st.sizes refl refl refl refl refl refl refl refl;
       commanded = st.commanded;
       actors = record { ended_are = x.ended_are; answered_are = x.answered_are; gone_are = x.gone_are; faults_are = x.faults_are };
+      stores = record { files_are = st.stores.files_are; frames_are = st.stores.frames_are };
       memory = record {
         seats_are = m.seats_are;
         buffers_are = m.buffers_are;
@@ -42,7 +43,6 @@ roomier_stands w n st =
         generation_is = m.generation_is;
         slots_bounded = m.slots_bounded;
         all_shared = m.all_shared;
-        no_folios = m.no_folios;
       };
     }
 

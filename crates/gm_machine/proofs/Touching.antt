@@ -147,6 +147,7 @@ touch_fill_turn w t v a page f value s lt i older =
         gone_are = x.gone_are;
         faults_are = faults_more w.setup.user w.mmu.progress.seq w.setup.vcpus w.faults e w.past (λ j. refl) (λ u. refl) x.faults_are;
       };
+      stores = record { files_are = st.stores.files_are; frames_are = st.stores.frames_are };
       memory = record {
         seats_are = seats_more w.mmu.requests w.setup.vcpus e w.past (λ u. refl) (λ u. refl) m.seats_are;
         buffers_are = buffers_more w.setup.user w.setup.vcpus w.mmu.fills e w.past (λ u. older_keep (eqb v u) (eqb f.at (length w.past)) (length w.past) a f.leaf.level (flat w.past) (fills u w.past) older) m.buffers_are;
@@ -158,12 +159,11 @@ touch_fill_turn w t v a page f value s lt i older =
         generation_is = m.generation_is;
         slots_bounded = m.slots_bounded;
         all_shared = m.all_shared;
-        no_folios = m.no_folios;
       };
     } in
     one_entry w w2 t v (Touch a (User page) f.leaf.level value f.at) false s lt st2 refl refl
     (record { is_inside = i.is_inside; is_served = i.served_by; right_value = value_by a.op (word_in w.user page a.word) (user_word page a.word w.past) value (m.words_are page a.word i.below i.word_below) i.right_value; command = i.command })
-    refl refl refl (record { no_call = s.calm.no_call; no_bracket = s.calm.no_bracket }) s.due tt
+    refl refl refl (record { pagings_are = s.calls.pagings_are; none_beyond = s.calls.none_beyond; no_bracket = s.calls.no_bracket }) s.due tt
 
 -- the fill of a leaf
 
@@ -239,6 +239,7 @@ touch_leaf_turn w t v a page f value s lt i at =
         gone_are = x.gone_are;
         faults_are = faults_more w.setup.user w.mmu.progress.seq w.setup.vcpus w.faults e w.past (λ j. refl) (λ u. refl) x.faults_are;
       };
+      stores = record { files_are = st.stores.files_are; frames_are = st.stores.frames_are };
       memory = record {
         seats_are = seats_more w.mmu.requests w.setup.vcpus e w.past (λ u. refl) (λ u. refl) m.seats_are;
         buffers_are = fills_step w t v a page value f st lt alike at;
@@ -250,9 +251,8 @@ touch_leaf_turn w t v a page f value s lt i at =
         generation_is = m.generation_is;
         slots_bounded = m.slots_bounded;
         all_shared = m.all_shared;
-        no_folios = m.no_folios;
       };
     } in
     one_entry w w2 t v (Touch a (User page) f.leaf.level value f.at) false s lt st2 refl refl
     (record { is_inside = i.is_inside; is_served = i.served_by; right_value = value_by a.op (word_in w.user page a.word) (user_word page a.word w.past) value (m.words_are page a.word i.below i.word_below) i.right_value; command = i.command })
-    refl refl refl (record { no_call = s.calm.no_call; no_bracket = s.calm.no_bracket }) s.due tt
+    refl refl refl (record { pagings_are = s.calls.pagings_are; none_beyond = s.calls.none_beyond; no_bracket = s.calls.no_bracket }) s.due tt

@@ -1,4 +1,5 @@
 pub mod Flags
+pub mod Holders
 pub mod Kept
 pub mod Plans
 pub mod Played
@@ -7,3 +8,4 @@ pub mod Stands
 pub mod Steps
 pub mod Ties
 pub mod Views
+pub mod Waiting

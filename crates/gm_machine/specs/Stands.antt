@@ -26,8 +26,8 @@ use Rattle.gm_inval.specs.Range.{open_range}
 use Rattle.gm_laws.specs.SlotsStand.{AllOf}
 use Rattle.gm_words.specs.Banks.{page_in}
 use Rattle.gm_machine.specs.Flags.{flag_of}
-use Rattle.gm_script.specs.Built.{IsTouch, IsBuiltCall, IsOnePassing}
-use Rattle.gm_machine.specs.Ties.{SeatsAre, LeavesAre, BuffersAre, WordsAre, IsBounded, FaultsAre, EndedAre, AnsweredAre}
+use Rattle.gm_script.specs.Built.{IsTouch, IsBuiltCall, IsOneRegion}
+use Rattle.gm_machine.specs.Ties.{SeatsAre, LeavesAre, BuffersAre, WordsAre, IsBounded, FaultsAre, EndedAre, AnsweredAre, FilesAre, FramesAre}
 use Rattle.gm_machine.specs.Views.{View, orders_of}
 
 -- each actor has what is its own
@@ -39,18 +39,19 @@ pub record Sizes (w : View) : Type 0 where
   pub buffer_count : length w.mmu.fills ≡ w.setup.vcpus
   pub ended_count : length w.ended ≡ w.setup.vcpus
   pub answered_count : length w.answered ≡ w.setup.callers
+  pub paging_count : length w.pagings ≡ w.setup.callers
   pub gone_vcpus : length w.gone.vcpus ≡ w.setup.vcpus
   pub gone_callers : length w.gone.callers ≡ w.setup.callers
   pub bank : length w.user ≡ w.setup.user
   pub no_blocks : w.setup.huge ≡ false
   pub user_small : w.setup.user ≤ MOST_USER_PAGES
 
--- the commands are of the forms that are built: reads of shared memory, calls that their arguments refuse, and one call that
--- makes a slot
+-- the commands are of the forms that are built: accesses of shared memory, calls that their arguments refuse, that make a
+-- file or allocate pages, and one call that makes a slot
 pub record Commanded (o : Orders) : Type 0 where
   pub touches : (v k : ℕ) → IfSome (slice_get (slice_index_or o.vcpus v []) k) IsTouch
   pub calls : (c k : ℕ) → IfSome (slice_get (slice_index_or o.callers c []) k) (IsBuiltCall o.setup.user)
-  pub one_passes : IsOnePassing o.setup.user o.callers
+  pub one_region : IsOneRegion o.setup.user o.callers
 
 abbrev pub GoneAre : View → Type 0
 GoneAre w = (a : Actor) → IsOf w.setup a → flag_of w.gone a ≡ gone a w.past
@@ -75,13 +76,18 @@ pub record Memory (w : View) : Type 0 where
   pub generation_is : w.slots.generation ≡ length w.slots.slots
   pub slots_bounded : AllOf (IsBounded w.setup.user) w.slots.slots
   pub all_shared : (flat w.past).attrs ≡ []
-  pub no_folios : (flat w.past).folios ≡ []
+
+-- what stands for files and frames
+pub record Stores (w : View) : Type 0 where
+  pub files_are : FilesAre w.files (flat w.past)
+  pub frames_are : FramesAre w.frames w.setup.frames (flat w.past)
 
 pub record Stands (w : View) : Type 0 where
   pub sizes : Sizes w
   pub commanded : Commanded (orders_of w)
   pub actors : Actors w
   pub memory : Memory w
+  pub stores : Stores w
 
 -- the vCPU's first access that isn't ended, and that it is one of shared memory
 abbrev pub IsNextAccess : Orders → ℕ → List Entry → Option Aim → Type 0

@@ -10,6 +10,8 @@ use Rattle.gm_flat.specs.RightOrder.{IsBlocked}
 use Rattle.gm_flat.specs.declared.entry.Entry.{Entry}
 use Rattle.gm_machine.specs.Flags.{Flags, no_flags}
 use Rattle.gm_machine.specs.Settled.{TookTurn}
+use Rattle.gm_machine.specs.Waiting.{WaitsOn}
+use Rattle.gm_machine.specs.declared.outcome.Blocker.{Blocker}
 use Rattle.gm_machine.specs.declared.outcome.How.{How}
 use Rattle.gm_machine.specs.declared.outcome.How.TheVariants.{Next, Kick}
 use Rattle.gm_machine.specs.declared.outcome.Outcome.{Outcome}
@@ -64,13 +66,19 @@ abbrev pub KickSpares : Seen → Seen → Actor → Type 0
 KickSpares old new (Vcpu v) = Spares old new v
 KickSpares old new (Caller c) = ⊥
 
--- by the outcome: what is built so far never waits, since each call is answered in its turn
+-- nothing was done, since the actor waits
+pub record Stalls (old new : Seen) (actor : Actor) (blocker : Blocker) : Type 0 where
+  pub same : new ≡ old
+  pub present : gone actor old.past ≡ false
+  pub waits : WaitsOn old.orders actor blocker old.past
+
+-- by the outcome
 abbrev pub StepsTo : Seen → Seen → Actor → How → Outcome → Type 0
 StepsTo old new actor Next Moved = Goes old new actor
 StepsTo old new actor Next Done = Rests old new actor
 StepsTo old new actor Kick Moved = KickMoves old new actor
 StepsTo old new actor Kick Nothing = KickSpares old new actor
 StepsTo old new actor Next Nothing = ⊥
-StepsTo old new actor Next (Waits blocker) = ⊥
+StepsTo old new actor Next (Waits blocker) = Stalls old new actor blocker
 StepsTo old new actor Kick Done = ⊥
 StepsTo old new actor Kick (Waits blocker) = ⊥

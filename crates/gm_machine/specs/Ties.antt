@@ -1,22 +1,28 @@
 -- How each part of a machine stands for its history.
-use Rattle.std.specs.Prelude.{◌≡◌, ℕ, ◌+◌, ◌-◌, ◌<◌, ◌≤◌, List, [], ◌∷◌, true, not, length, nat_eq, nat_lt, Some, None, IfSome, slice_index_or, if◌then◌else◌}
+use Rattle.std.specs.Prelude.{◌≡◌, ℕ, ◌+◌, ◌-◌, ◌<◌, ◌≤◌, List, [], ◌∷◌, true, false, not, length, nat_eq, nat_lt, Some, None, IfSome, slice_index_or, if◌then◌else◌}
 use Rattle.std.specs.declared.option.Option.{Option}
 use Rattle.gm_base.specs.Aim.{Aim}
 use Rattle.gm_base.specs.Extent.{Extent, meets}
 use Rattle.gm_base.specs.Leaf.{covers as leaf_covers, meets_leaf}
 use Rattle.gm_base.specs.declared.leaf.Leaf.{Leaf}
+use Rattle.gm_base.specs.declared.calls.Ioctl.{Ioctl}
+use Rattle.gm_base.specs.declared.calls.Ioctl.TheVariants.{Create, Region2, Attrs, Punch, Allocate, Close, Populate, Poke, Peek}
 use Rattle.gm_base.specs.declared.numbers.TheConstants.{PAGE_LIMIT, PAGE_WORDS}
+use Rattle.gm_base.specs.declared.values.Setup.{Setup}
 use Rattle.gm_base.specs.declared.values.Actor.TheVariants.{Vcpu, Caller}
 use Rattle.gm_base.specs.declared.values.Kind.TheVariants.{Shared}
 use Rattle.gm_base.specs.declared.values.Place.{Place}
 use Rattle.gm_base.specs.declared.values.Place.TheVariants as place
 use Rattle.gm_fault.specs.Routes.{IsSlotOver}
 use Rattle.gm_fault.specs.declared.ticket.Ticket.{Ticket}
-use Rattle.gm_flat.specs.Histories.{Seen, Gotten, Fault, NoFault, Faulting, fault, done}
+use Rattle.gm_file.specs.Views.{FileView}
+use Rattle.gm_flat.specs.Calls.{PagePlan, Paged, plan}
+use Rattle.gm_flat.specs.FlatState.{Flat, added, cached, file_by_number, is_free}
+use Rattle.gm_flat.specs.Histories.{Call, call, Seen, Gotten, Fault, NoFault, Faulting, fault, done}
 use Rattle.gm_flat.specs.Invalidation.{ended}
 use Rattle.gm_flat.specs.Mappings.{Mapping, covered, covers, fills, inside, leaves, pending}
 use Rattle.gm_flat.specs.NamedPage.{Named}
-use Rattle.gm_flat.specs.Replay.{looked_slot}
+use Rattle.gm_flat.specs.Replay.{flat, looked_slot}
 use Rattle.gm_flat.specs.Words.{user_word}
 use Rattle.gm_flat.specs.declared.effect.Backing.{Backing}
 use Rattle.gm_flat.specs.declared.effect.Backing.TheVariants.{User, Folio}
@@ -24,11 +30,14 @@ use Rattle.gm_flat.specs.declared.entry.Entry.{Entry}
 use Rattle.gm_flat.specs.declared.views.Looked.{Looked}
 use Rattle.gm_flat.specs.declared.views.Sampled.{Sampled}
 use Rattle.gm_flat.specs.declared.views.SlotView.{SlotView}
+use Rattle.gm_pool.specs.Pools.{Frames, is_free as frame_is_free}
+use Rattle.gm_radix.specs.Entries.{lookup}
 use Rattle.gm_table.specs.Leaves.{leaf_over}
 use Rattle.gm_tlb.specs.Requests.{Requests}
 use Rattle.gm_tlb.specs.declared.ring.Seat.{Seat}
 use Rattle.gm_tlb.specs.declared.tlb.Fill.{Fill}
 use Rattle.gm_words.specs.Banks.{word_in}
+use Rattle.gm_machine.specs.declared.paging.Paging.{Paging}
 
 -- who is inside, and who is asked to flush
 pub record SeatIs (seat : Seat) (asked v : ℕ) (past : List Entry) : Type 0 where
@@ -87,11 +96,12 @@ BuffersAre user n buffers past = (v : ℕ) (d : List Fill) → v < n → FillsAr
 abbrev pub WordsAre : List (List ℕ) → ℕ → List Entry → Type 0
 WordsAre bank user past = (page word : ℕ) → page < user → word < PAGE_WORDS → word_in bank page word ≡ user_word page word past
 
--- the slot's guest pages and indexes are below 2^52, and its user pages are ones of the machine
+-- the slot's guest pages and indexes are below 2^52, its user pages are ones of the machine, and it has no file
 pub record IsBounded (user : ℕ) (s : SlotView) : Type 0 where
   pub pages : s.base + s.pages ≤ PAGE_LIMIT
   pub users : s.user + s.pages ≤ user
   pub indexes : s.index + s.pages ≤ PAGE_LIMIT
+  pub no_file : s.file ≡ None
 
 -- a fault's sample: no bracket ended since exactly where the sequence is the one sampled
 pub record SampleIs (seq : ℕ) (past : List Entry) (x : Sampled) (at : ℕ) : Type 0 where
@@ -112,12 +122,17 @@ pub record LookIs (user : ℕ) (past : List Entry) (page : ℕ) (x : Looked) (l 
   pub attr_shared : x.attr ≡ Shared
   pub sight : IfSome x.slot (IsSightOf user page)
 
+-- what was got is a user page
+abbrev pub IsUserPage : Backing → Type 0
+IsUserPage (User page) = Unit {0}
+IsUserPage (Folio folio) = ⊥
+
 -- how far the fault is
 abbrev pub StageIs : ℕ → ℕ → List Entry → ℕ → Option Sampled → Option Looked → Option Backing → Option ℕ → Option Seen → Option Gotten → Type 0
 StageIs user seq past page None None None None None None = Unit {0}
 StageIs user seq past page (Some x) None None (Some s) None None = SampleIs seq past x s
 StageIs user seq past page (Some x) (Some y) None (Some s) (Some l) None = SampleIs seq past x s × LookIs user past page y l
-StageIs user seq past page (Some x) (Some y) (Some b) (Some s) (Some l) (Some g) = SampleIs seq past x s × LookIs user past page y l × (g.backing ≡ b)
+StageIs user seq past page (Some x) (Some y) (Some b) (Some s) (Some l) (Some g) = SampleIs seq past x s × LookIs user past page y l × (g.backing ≡ b) × IsUserPage b
 StageIs user seq past page x y b s l g = ⊥
 
 pub record TicketIs (user seq : ℕ) (past : List Entry) (t : Ticket) (a : Aim) (missed : ℕ) (sample : Option ℕ) (look : Option Seen) (got : Option Gotten) : Type 0 where
@@ -141,3 +156,50 @@ EndedAre ended n past = (v d : ℕ) → v < n → slice_index_or ended v d ≡ d
 
 abbrev pub AnsweredAre : List ℕ → ℕ → List Entry → Type 0
 AnsweredAre answered n past = (c d : ℕ) → c < n → slice_index_or answered c d ≡ done (Caller c) past
+
+-- a file of the machine is the one of that number, in use and without blocks, with the same folios cached
+pub record FileIs (x : FileView) (file : ℕ) (f : Flat) : Type 0 where
+  pub state : file_by_number file f.files ≡ Some (record { number = file; pages = x.pages; block = false; used = true })
+  pub cached_are : (index : ℕ) → lookup index x.cached ≡ cached file index f.cache
+
+pub record FilesAre (files : List FileView) (f : Flat) : Type 0 where
+  pub count_is : length files ≡ length f.files
+  pub each : (file : ℕ) (d : FileView) → file < length files → FileIs (slice_index_or files file d) file f
+  pub none_beyond : (file : ℕ) → length files ≤ file → file_by_number file f.files ≡ None
+  pub nothing_beyond : (file index : ℕ) → length files ≤ file → cached file index f.cache ≡ None
+
+-- a frame of the pool is free where no live folio has it, and the next serial is the number of folios added
+pub record FramesAre (p : Frames) (frames : ℕ) (f : Flat) : Type 0 where
+  pub count_is : length p.uses ≡ frames
+  pub next_is : p.next ≡ added f
+  pub free_are : (frame : ℕ) → frame < frames → frame_is_free p frame ≡ is_free frame f.folios
+
+-- the call is an allocation in the file
+abbrev pub AllocatesIn : ℕ → Ioctl → Type 0
+AllocatesIn file (Allocate fd offset bytes) = fd ≡ file
+AllocatesIn file (Create size flags) = ⊥
+AllocatesIn file (Region2 r) = ⊥
+AllocatesIn file (Attrs address size attributes flags) = ⊥
+AllocatesIn file (Punch fd offset bytes) = ⊥
+AllocatesIn file (Close fd) = ⊥
+AllocatesIn file (Populate gpa pages user) = ⊥
+AllocatesIn file (Poke address value) = ⊥
+AllocatesIn file (Peek address) = ⊥
+
+abbrev pub pages_of : Paging → PagePlan
+pages_of x = record { file = x.file; index = x.index; pages = x.pages; base = None; copy = None }
+
+-- a call in progress is an allocation of these pages
+pub record Pages (s : Setup) (x : Paging) (y : Call) (f : Flat) : Type 0 where
+  pub planned : plan s y.ioctl f ≡ Paged (pages_of x)
+  pub unmade : y.made ≡ false
+  pub allocates : AllocatesIn x.file y.ioctl
+
+abbrev pub PagingIs : Setup → Option Paging → Option Call → Flat → Type 0
+PagingIs s None None f = Unit {0}
+PagingIs s (Some x) (Some y) f = Pages s x y f
+PagingIs s None (Some y) f = ⊥
+PagingIs s (Some x) None f = ⊥
+
+abbrev pub PagingsAre : Setup → List (Option Paging) → List Entry → Type 0
+PagingsAre s pagings past = (c : ℕ) (d : Option Paging) → c < s.callers → PagingIs s (slice_index_or pagings c d) (call c past) (flat past)

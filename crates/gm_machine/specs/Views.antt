@@ -5,15 +5,18 @@ use Rattle.gm_base.specs.Scripts.{Orders}
 use Rattle.gm_base.specs.declared.script.Command.{Command}
 use Rattle.gm_base.specs.declared.values.Setup.{Setup}
 use Rattle.gm_fault.specs.declared.ticket.Ticket.{Ticket}
+use Rattle.gm_file.specs.Views.{FileView}
 use Rattle.gm_flat.specs.declared.entry.Entry.{Entry}
 use Rattle.gm_mmu.specs.Served.{Serving}
+use Rattle.gm_pool.specs.Pools.{Frames}
 use Rattle.gm_slots.specs.Changes.{SlotList}
 use Rattle.gm_machine.specs.Flags.{Flags}
+use Rattle.gm_machine.specs.declared.paging.Paging.{Paging}
 use Rattle.gm_machine.specs.declared.parts.Parts.{Parts}
 
 -- the setup and each actor's commands; the history, its newest entry first; leaves, buffers and requests; the slots; user
--- memory; each vCPU's fault in flight; how many commands each vCPU has ended and each caller has had answered; and who
--- has written `gone`
+-- memory; frames and files; each vCPU's fault in flight; how many commands each vCPU has ended and each caller has had
+-- answered; the pages that each caller's call in progress adds; and who has written `gone`
 pub record View : Type 0 where
   pub setup : Setup
   pub vcpus : List (List Command)
@@ -22,9 +25,12 @@ pub record View : Type 0 where
   pub mmu : Serving
   pub slots : SlotList
   pub user : List (List ℕ)
+  pub frames : Frames
+  pub files : List FileView
   pub faults : List (Option Ticket)
   pub ended : List ℕ
   pub answered : List ℕ
+  pub pagings : List (Option Paging)
   pub gone : Flags
 
 abbrev pub values_of : Parts → View
@@ -36,9 +42,12 @@ values_of p = record {
   mmu = p.mmu;
   slots = record { slots = p.slots.slots; generation = p.slots.generation };
   user = p.user;
+  frames = p.pool;
+  files = p.files.files;
   faults = p.faults.items;
   ended = p.ended.items;
   answered = p.answered.items;
+  pagings = p.pagings.items;
   gone = p.gone;
 }
 

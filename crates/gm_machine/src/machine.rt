@@ -16,6 +16,7 @@ use crate::flags::ActorFlags;
 use crate::fresh::fresh;
 use crate::outcome::{How, Outcome};
 use crate::parts::Parts;
+use crate::room::make_room;
 use crate::turns::take_turn;
 use crate::vcpu_turns::kick;
 use gm_base::{Actor, NoMemory, Setup};
@@ -69,8 +70,7 @@ impl Machine {
         ensures room { OnOk result (flag_of self.new.room actor ≡ true) }
         ensures err { OnErr result (self.new ≡ self.old) }
     {
-        self.parts.log.reserve(3)?;
-        self.parts.mmu.reserve()?;
+        make_room(&mut self.parts, actor)?;
         self.room.set(actor);
         Ok(())
     }
@@ -93,13 +93,12 @@ impl Machine {
     {
         match how {
             How::Next => {
-                if take_turn(&mut self.parts, self.turns + 1, actor) {
+                let outcome = take_turn(&mut self.parts, self.turns + 1, actor);
+                if outcome == Outcome::Moved {
                     self.turns += 1;
                     self.room.clear();
-                    Outcome::Moved
-                } else {
-                    Outcome::Done
                 }
+                outcome
             }
             How::Kick => match actor {
                 Actor::Vcpu(v) => {

@@ -10,27 +10,28 @@ ghost use Rattle.gm_machine.specs.Stands.{IsNextAccess, Stands};
 ghost use Rattle.gm_machine.specs.Views.{orders_of, values_of};
 
 use crate::faults::turn_faulting;
+use crate::outcome::Outcome;
 use crate::parts::Parts;
 use crate::touches::turn_inside;
 use gm_base::{Access, Actor, Command};
 use gm_flat::{Entry, What};
 
-/// Takes the vCPU's next turn under this number. Answers whether it wrote entries: exactly where the vCPU hasn't written
+/// Takes the vCPU's next turn under this number: `Moved` where it wrote entries, and `Done` exactly where the vCPU has written
 /// `gone`.
-pub fn vcpu_turn(parts: &mut Parts, turn: u64, v: u32) -> bool
+pub fn vcpu_turn(parts: &mut Parts, turn: u64, v: u32) -> Outcome
     requires settled { Settled (values_of parts.old) turn }
     requires actor { v < parts.old.setup.vcpus }
     requires room { IsRoomy parts.old }
     ensures { TurnsTo parts.old parts.new turn (Vcpu v) result }
 {
     if parts.gone.has(Actor::Vcpu(v)) {
-        return false;
+        return Outcome::Done;
     }
     match parts.faults[v as usize] {
         Some(ticket) => turn_faulting(parts, turn, v, ticket),
         None => turn_waiting(parts, turn, v),
     }
-    true
+    Outcome::Moved
 }
 
 /// Writes `flush` where a flush of the vCPU is pending, and answers whether one was.

@@ -145,6 +145,13 @@ impl Pool {
         }
     }
 
+    /// The serial of the next new folio: how many there were so far.
+    pub fn next(&self) -> u64
+        ensures { result ≡ self.now.next }
+    {
+        self.next
+    }
+
     /// The use of a frame, None where it is free or there is no such frame.
     pub(crate) fn usage(&self, frame: u32) -> Option<Use>
         ensures { result ≡ use_of self.now frame }
