@@ -11,7 +11,6 @@ use Rattle.gm_base.specs.declared.values.Setup.{Setup}
 use Rattle.gm_base.specs.declared.values.Kind.{Kind}
 use Rattle.gm_base.specs.declared.values.Kind.TheVariants.{Private, Shared}
 use Rattle.gm_base.specs.declared.values.Op.{Op}
-use Rattle.gm_base.specs.declared.values.Op.TheVariants.{Read, Write}
 use Rattle.gm_base.specs.declared.script.Command.TheVariants as command
 use Rattle.gm_base.specs.declared.script.Turn.{Turn}
 use Rattle.gm_base.specs.declared.script.Turn.TheVariants as turn
@@ -22,9 +21,9 @@ use Rattle.gm_script.specs.declared.actors.Named.TheVariants.{Vcpu as NamedVcpu,
 use Rattle.gm_script.specs.declared.orders.Order.{Order}
 use Rattle.gm_script.specs.declared.orders.Order.TheVariants.{Touch, Call, Turns, Kick, Round}
 use Rattle.gm_script.specs.Actors.{is_known, actor_of}
-use Rattle.gm_script.specs.BuiltForms.{is_plain, is_built}
+use Rattle.gm_script.specs.BuiltForms.{is_plain, is_region, is_ready, is_built}
 use Rattle.gm_script.specs.Rounds.{rounds_of}
-use Rattle.gm_script.specs.Built.{IsTouch, IsBuiltCall, IsWithin, passes_at}
+use Rattle.gm_script.specs.Built.{IsTouch, IsBuiltCall, IsWithin, region_at}
 use Rattle.gm_script.specs.Grammar.{Draft, empty_draft, has_actor, is_aligned, has_room, aim_of, with_turns, after_order, ordered, numbered, formed, later_line, going, after_line}
 use Rattle.gm_script.specs.Lines.{Line, words_of, word_at, is_skipped, has_bad_byte}
 use Rattle.gm_script.specs.Split.{same_bytes}
@@ -34,13 +33,13 @@ use Rattle.gm_script.specs.declared.forms.Form.{Form}
 use Rattle.gm_script.specs.declared.error.Cause.{Cause}
 use Rattle.gm_script.specs.declared.error.Cause.TheVariants.{Bytes, Cut, Machine, Actor, Align, Limit, Unbuilt}
 use Rattle.gm_script.specs.Drafts.{IsEvenDraft}
-use Rattle.gm_script.proofs.Calls.{built_call}
+use Rattle.gm_script.proofs.Calls.{built_call, first_region}
 use Rattle.gm_script.proofs.Puts.{each_put, each_pushed, count_put, one_put, none_put, no_list, no_command}
 use Rattle.gm_script.proofs.Turns.{count_rounds, rounds_known}
 
 -- at the `machine` line
 
-empty_passing : (user n c k : ℕ) → passes_at user (replicate n []) c k ≡ false
+empty_passing : (user n c k : ℕ) → region_at user (replicate n []) c k ≡ false
 empty_passing user n c k = rw (no_list n c) refl
 
 pub even_empty : (s : Setup) → IsWithin s → IsEvenDraft (empty_draft s)
@@ -51,13 +50,13 @@ even_empty s w = record {
     callers = length-replicate s.callers [];
     touches = λ v k. rw (no_list s.vcpus v) tt;
     calls = λ c k. rw (no_list s.callers c) tt;
-    one_passes = λ c k d j p q. absurd (let e : passes_at s.user (replicate s.callers []) c k ≡ false = empty_passing s.user s.callers c k in cc);
+    one_region = λ c k d j p q. absurd (let e : region_at s.user (replicate s.callers []) c k ≡ false = empty_passing s.user s.callers c k in cc);
     turns = All-nil (IsTurnOf s);
     commands = omega (arith, no_command s.vcpus, no_command s.callers);
     turn_count = omega arith;
   };
   counted = omega (arith, no_command s.vcpus, no_command s.callers);
-  none_passed = λ _ c k. empty_passing s.user s.callers c k;
+  no_region = λ _ c k. empty_passing s.user s.callers c k;
 }
 
 -- an access
@@ -88,13 +87,13 @@ even_access d v kind gpa op h a r b =
         callers = h.even.callers;
         touches = each_put IsTouch d.vcpus v _ h.even.touches (each_pushed IsTouch _ _ (h.even.touches v) b);
         calls = h.even.calls;
-        one_passes = h.even.one_passes;
+        one_region = h.even.one_region;
         turns = h.even.turns;
         commands = omega (arith, count, h.counted);
         turn_count = h.even.turn_count;
       };
       counted = omega (arith, count, h.counted);
-      none_passed = h.none_passed;
+      no_region = h.no_region;
     }
 
 -- a call
@@ -103,12 +102,7 @@ neither : (a b : Bool) → (a || b) ≡ false → (a ≡ false) × (b ≡ false)
 neither true b h = absurd cc
 neither false b h = (refl, h)
 
-first_passing : (p has plain : Bool) → (not p || (not has && plain)) ≡ true → p ≡ true → has ≡ false
-first_passing true true plain h e = absurd cc
-first_passing true false plain h e = refl
-first_passing false has plain h e = absurd cc
-
-even_call : (d : Draft) (c : ℕ) (call : Ioctl) → IsEvenDraft d → c < d.setup.callers → d.commands + 1 ≤ MOST_COMMANDS → (not (passes d.setup.user call) || (not d.has_passed && is_plain call)) ≡ true → IsEvenDraft (after_order d (Call c call))
+even_call : (d : Draft) (c : ℕ) (call : Ioctl) → IsEvenDraft d → c < d.setup.callers → d.commands + 1 ≤ MOST_COMMANDS → (not (passes d.setup.user call) || (is_ready call || (not d.has_region && is_plain call))) ≡ true → IsEvenDraft (after_order d (Call c call))
 unfolding after_order
 even_call d c call h a r b =
     let user = d.setup.user in
@@ -120,14 +114,16 @@ even_call d c call h a r b =
         vcpus = h.even.vcpus;
         callers = simp length-set h.even.callers;
         touches = h.even.touches;
-        calls = each_put (IsBuiltCall user) d.callers c _ h.even.calls (each_pushed (IsBuiltCall user) _ _ (h.even.calls c) (built_call user d.has_passed call b));
-        one_passes = one_put user d.callers c (command.Call call) h.even.one_passes (λ p. h.none_passed (first_passing (passes user call) d.has_passed (is_plain call) b p));
+        calls = each_put (IsBuiltCall user) d.callers c _ h.even.calls (each_pushed (IsBuiltCall user) _ _ (h.even.calls c) (built_call user d.has_region call b));
+        one_region = one_put user d.callers c (command.Call call) h.even.one_region (λ p. h.no_region (first_region user d.has_region call b p));
         turns = h.even.turns;
         commands = omega (arith, count, h.counted);
         turn_count = h.even.turn_count;
       };
       counted = omega (arith, count, h.counted);
-      none_passed = λ e. none_put user d.callers c (command.Call call) (neither d.has_passed (passes user call) e).1 (h.none_passed (neither d.has_passed (passes user call) e).0);
+      no_region = λ e.
+          let none = neither d.has_region (passes user call && is_region call) e in
+          none_put user d.callers c (command.Call call) none.1 (h.no_region none.0);
     }
 
 -- turns
@@ -140,13 +136,13 @@ even_turns d turns h known room = record {
     callers = h.even.callers;
     touches = h.even.touches;
     calls = h.even.calls;
-    one_passes = h.even.one_passes;
+    one_region = h.even.one_region;
     turns = All-append (IsTurnOf d.setup) d.turns turns h.even.turns known;
     commands = h.even.commands;
     turn_count = simp length-append room;
   };
   counted = h.counted;
-  none_passed = h.none_passed;
+  no_region = h.no_region;
 }
 
 known_actor : (s : Setup) (a : Named) → is_known s a ≡ true → IsOf s (actor_of a)
@@ -155,7 +151,7 @@ known_actor s (NamedCaller c) h = is_below c s.callers h
 
 -- each order
 
-pub even_order : (d : Draft) (o : Order) → IsEvenDraft d → has_actor d.setup o ≡ true → has_room d o ≡ true → is_built d.setup.user d.has_passed o ≡ true → IsEvenDraft (after_order d o)
+pub even_order : (d : Draft) (o : Order) → IsEvenDraft d → has_actor d.setup o ≡ true → has_room d o ≡ true → is_built d.setup.user d.has_region o ≡ true → IsEvenDraft (after_order d o)
 unfolding has_actor has_room is_built aim_of after_order
 even_order d (Touch v kind gpa op) h a r b =
     let room = both_true (leb (d.commands + 1) MOST_COMMANDS) (leb (length d.turns + 0) MOST_TURNS) r in
@@ -186,7 +182,7 @@ chain true true true true x y h = (refl, refl, refl, cc)
 even_ordered : (d : Draft) (o : Order) (y : Draft) → IsEvenDraft d → ordered d o ≡ Ok y → IsEvenDraft y
 unfolding ordered
 even_ordered d o y h e =
-    let tests = chain (has_actor d.setup o) (is_aligned o) (has_room d o) (is_built d.setup.user d.has_passed o) (after_order d o) y e in
+    let tests = chain (has_actor d.setup o) (is_aligned o) (has_room d o) (is_built d.setup.user d.has_region o) (after_order d o) y e in
     subst (λ (x : Draft). IsEvenDraft x) tests.3 (even_order d o h tests.0 tests.1 tests.2)
 
 even_numbered : (d : Draft) (o : Option Order) (y : Draft) → IsEvenDraft d → numbered d o ≡ Ok y → IsEvenDraft y

@@ -26,11 +26,36 @@ is_plain (Populate gpa pages user) = false
 is_plain (Poke address value) = false
 is_plain (Peek address) = false
 
--- Shared accesses; each call that its arguments refuse, and the first call that passes where it is a plain region; all turns.
--- `has_passed` says whether a call of an earlier line passes.
+-- whether a call sets a region
+abbrev pub is_region : Ioctl → Bool
+is_region (Region2 r) = true
+is_region (Create size flags) = false
+is_region (Attrs address size attributes flags) = false
+is_region (Punch fd offset length) = false
+is_region (Allocate fd offset length) = false
+is_region (Close fd) = false
+is_region (Populate gpa pages user) = false
+is_region (Poke address value) = false
+is_region (Peek address) = false
+
+-- whether a call makes a file without blocks, or adds pages to one
+abbrev pub is_ready : Ioctl → Bool
+is_ready (Create size flags) = nat_eq flags 0
+is_ready (Allocate fd offset length) = true
+is_ready (Region2 r) = false
+is_ready (Attrs address size attributes flags) = false
+is_ready (Punch fd offset length) = false
+is_ready (Close fd) = false
+is_ready (Populate gpa pages user) = false
+is_ready (Poke address value) = false
+is_ready (Peek address) = false
+
+-- Shared accesses; each call that its arguments refuse, each that passes and makes a file without blocks or adds pages to one,
+-- and the first region that passes where it is a plain one; all turns. `has_region` says whether a region of an earlier line
+-- passes.
 unfoldable pub is_built : ℕ → Bool → Order → Bool
-is_built user has_passed (Touch vcpu kind gpa op) = same_kind kind Shared
-is_built user has_passed (Call caller call) = not (passes user call) || (not has_passed && is_plain call)
-is_built user has_passed (Turns actor count) = true
-is_built user has_passed (Kick vcpu) = true
-is_built user has_passed (Round count) = true
+is_built user has_region (Touch vcpu kind gpa op) = same_kind kind Shared
+is_built user has_region (Call caller call) = not (passes user call) || (is_ready call || (not has_region && is_plain call))
+is_built user has_region (Turns actor count) = true
+is_built user has_region (Kick vcpu) = true
+is_built user has_region (Round count) = true

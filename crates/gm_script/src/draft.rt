@@ -9,7 +9,7 @@ ghost use Rattle.gm_script.specs.Grammar.{has_actor, is_aligned, commands_in, tu
 ghost use Rattle.gm_script.specs.Drafts.{draft_of, IsEvenDraft};
 
 use crate::actors::Named;
-use crate::built::passes;
+use crate::built::{is_region, passes};
 use crate::error::Cause;
 use crate::lists::CommandList;
 use crate::orders::Order;
@@ -19,7 +19,8 @@ use gm_base::{
 };
 use std::alloc::Global;
 
-/// A setup, each actor's commands and the turns so far; how many commands there are, and whether a call of them passes.
+/// A setup, each actor's commands and the turns so far; how many commands there are, and whether a region of them
+/// passes.
 #[derive(Drop)]
 pub struct Draft {
     pub setup: Setup,
@@ -27,7 +28,7 @@ pub struct Draft {
     pub callers: Vec<CommandList>,
     pub turns: Vec<Turn>,
     pub commands: usize,
-    pub has_passed: bool,
+    pub has_region: bool,
 }
 
 /// Why a line adds nothing.
@@ -176,11 +177,11 @@ fn add_call(draft: &mut Draft, caller: u64, call: Ioctl) -> Result<(), NoMemory>
     requires actor { caller < draft.old.setup.callers }
     ensures { OnOk result (draft_of draft.new ≡ with_call (draft_of draft.old) caller call) }
 {
-    let has_passed = draft.has_passed || passes(draft.setup.user, call);
+    let has_region = draft.has_region || (passes(draft.setup.user, call) && is_region(call));
     let list = &mut draft.callers[caller as usize];
     list.push(Command::Call(call))?;
     draft.commands += 1;
-    draft.has_passed = has_passed;
+    draft.has_region = has_region;
     Ok(())
 }
 
@@ -250,7 +251,7 @@ pub fn empty(alloc: Global, setup: Setup) -> Result<Draft, NoMemory>
         callers,
         turns: Vec::new(alloc),
         commands: 0,
-        has_passed: false,
+        has_region: false,
     })
 }
 

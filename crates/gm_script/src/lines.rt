@@ -91,7 +91,7 @@ fn obey(draft: &mut Draft, order: Order) -> Result<(), Refused>
     if !has_room(draft, order) {
         return Err(Refused::Bad(Cause::Limit));
     }
-    if !is_built(draft.setup.user, draft.has_passed, order) {
+    if !is_built(draft.setup.user, draft.has_region, order) {
         return Err(Refused::Bad(Cause::Unbuilt));
     }
     add_order(draft, order)?;

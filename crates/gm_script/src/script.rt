@@ -105,7 +105,7 @@ pub fn read_script(alloc: Global, bytes: &[u8]) -> Result<Script, ScriptError>
         callers,
         turns,
         commands: _,
-        has_passed: _,
+        has_region: _,
     } = draft;
     Ok(Script {
         setup,

@@ -162,11 +162,9 @@ fn bad_orders(rt: HostRuntime) -> Result<(), Fail> {
         (b"turn v0 262144\nkick v0\n".as_slice(), 3, Cause::Limit),
         (b"v0 write private 0 1\n".as_slice(), 2, Cause::Unbuilt),
         (b"v0 read private 0\n".as_slice(), 2, Cause::Unbuilt),
-        (b"c0 create 4096 0\n".as_slice(), 2, Cause::Unbuilt),
         (b"c0 create 4096 1\n".as_slice(), 2, Cause::Unbuilt),
         (b"c0 attrs 0 4096 8 0\n".as_slice(), 2, Cause::Unbuilt),
         (b"c0 punch 0 0 4096\n".as_slice(), 2, Cause::Unbuilt),
-        (b"c0 allocate 0 0 4096\n".as_slice(), 2, Cause::Unbuilt),
         (b"c0 close 0\n".as_slice(), 2, Cause::Unbuilt),
         (b"c0 populate 0 1 0\n".as_slice(), 2, Cause::Unbuilt),
         (b"c0 poke 0 1\n".as_slice(), 2, Cause::Unbuilt),
@@ -179,6 +177,16 @@ fn bad_orders(rt: HostRuntime) -> Result<(), Fail> {
         (b"c0 region 0 0 0 0 0 0 0\n".as_slice(), 2, Cause::Unbuilt),
         (
             b"c0 region 0 0 0 4096 0 0 0\nc1 region 1 2 8192 4096 0 0 0\n".as_slice(),
+            3,
+            Cause::Unbuilt,
+        ),
+        (
+            b"c0 create 4096 0\nc0 region 0 0 0 4096 0 0 0\nc0 allocate 0 0 4096\nc1 region 1 2 8192 4096 0 0 0\n".as_slice(),
+            5,
+            Cause::Unbuilt,
+        ),
+        (
+            b"c0 create 4096 0\nc0 region 0 4 0 4096 0 0 0\n".as_slice(),
             3,
             Cause::Unbuilt,
         ),
@@ -208,6 +216,9 @@ fn right_lines(rt: HostRuntime) -> Result<(), Fail> {
         b"c0 region 0 2 0 16384 0 4294967295 1\nc0 region 0 2 0 16385 0 0 0\n".as_slice(),
         b"c0 attrs 1 4096 8 0\nc0 punch 0 0 0\nc0 allocate 0 1 4096\n".as_slice(),
         b"c1 populate 0 0 0\nc1 poke 1 0\nc1 peek 16384\n".as_slice(),
+        b"c0 create 4096 0\n".as_slice(),
+        b"c0 allocate 0 0 4096\n".as_slice(),
+        b"c0 create 8192 0\nc1 allocate 0 4096 4096\nc1 region 0 0 0 4096 0 0 0\nc0 create 4096 0\n".as_slice(),
     ] {
         assert_eq!(rt; refusal(rt.alloc(), lines)?, None, "{lines:?}");
     }
