@@ -14,7 +14,6 @@ use Rattle.gm_flat.specs.Calls.{Plan, Refused, Short, new_slot, page_of, plan, s
 use Rattle.gm_flat.specs.Effects.{slot_fits}
 use Rattle.gm_flat.specs.FlatState.{Flat}
 use Rattle.gm_flat.specs.Histories.{Call, call, done, gone, with_change}
-use Rattle.gm_flat.specs.Locks.{WaitsForLock}
 use Rattle.gm_flat.specs.Replay.{flat}
 use Rattle.gm_flat.specs.RightCalls.{IsAnswer, IsEffect, RightAnswer, RightChange}
 use Rattle.gm_flat.specs.RightLives.{plan_of}
@@ -34,17 +33,19 @@ use Rattle.gm_ioctl.proofs.Refusals.{passed_plan, refused_plan}
 use Rattle.gm_ioctl.proofs.Ranges.{passed_in_range}
 use Rattle.gm_ioctl.specs.InRange.{RegionInRange}
 use Rattle.gm_ioctl.specs.Arguments.{argument_refusal, has_none}
+use Rattle.gm_machine.proofs.Calls.{calls_after, pages_same, paging_none}
 use Rattle.gm_machine.proofs.Flights.{faults_more}
 use Rattle.gm_machine.proofs.Gone.{gone_more}
 use Rattle.gm_machine.proofs.Lists.{self, set_each}
 use Rattle.gm_machine.proofs.One.{next_new, one_by, quiet_more, quiet_one, turn_by}
 use Rattle.gm_machine.proofs.Quiet.{buffers_more, memory_quiet, seats_more, sizes_kept}
-use Rattle.gm_script.specs.Built.{IsPlainRegion, is_passing, passes_at}
+use Rattle.gm_script.specs.Built.{IsPlainRegion, is_passing_region, region_at}
 use Rattle.gm_machine.specs.Flags.{with_flag}
-use Rattle.gm_machine.specs.Settled.{IsCalm, Settled, SlotsAreDue, Turned}
+use Rattle.gm_machine.specs.Settled.{CallsAre, MayCall, Settled, SlotsAreDue, Turned}
 use Rattle.gm_machine.specs.Stands.{Memory, Stands}
-use Rattle.gm_machine.specs.Ties.{AnsweredAre, IsBounded}
+use Rattle.gm_machine.specs.Ties.{AnsweredAre, FilesAre, FramesAre, IsBounded, PagingIs}
 use Rattle.gm_machine.specs.Views.{View, orders_of}
+use Rattle.gm_machine.specs.declared.paging.Paging.{Paging}
 
 -- what is mapped and kept isn't told by what else there is
 memory_kept : (w w2 : View) (e : Entry) → Memory (record w { past = e ∷ w.past }) → w2.setup ≡ w.setup → w2.past ≡ e ∷ w.past → w2.mmu ≡ w.mmu → w2.slots ≡ w.slots → w2.user ≡ w.user → Memory w2
@@ -99,9 +100,6 @@ own_call : (t c : ℕ) (ioctl : Ioctl) (past : List Entry) → call c (by t (Cal
 own_call t c ioctl past = cond-true (eqb c c) (Some (judged_call ioctl past false)) (call c past) (self c)
 
 -- where a call is over, for its caller and for another
-over_own : (t : Bool) (x y z : Option Call) → t ≡ true → cond t None (cond t x (cond t y z)) ≡ None
-over_own true x y z e = refl
-
 over_none : (t : Bool) (x y : Option Call) → t ≡ true → cond t None (cond t x y) ≡ None
 over_none true x y e = refl
 
@@ -233,7 +231,7 @@ change_stands w t c r st p =
     let m = st.memory in
     let made : made_slot r ≡ plain_slot r = made_plain r (no_file r p.flags) in
     let after = after_make w t c r st p in
-    let bounded : IsBounded w.setup.user (plain_slot r) = record { pages = p.good.pages; users = p.good.users; indexes = index_le (page_of r.size) 4503599627370496 (part_le (page_of r.gpa) (page_of r.size) 4503599627370496 p.good.pages) } in
+    let bounded : IsBounded w.setup.user (plain_slot r) = record { pages = p.good.pages; users = p.good.users; indexes = index_le (page_of r.size) 4503599627370496 (part_le (page_of r.gpa) (page_of r.size) 4503599627370496 p.good.pages); no_file = refl } in
     record {
       sizes = sizes_kept w (e ∷ w.past) w.mmu (changed w t c r).slots w.user w.faults w.ended w.answered w.gone st.sizes refl refl refl refl refl refl refl refl;
       commanded = st.commanded;
@@ -243,7 +241,10 @@ change_stands w t c r st p =
         gone_are = x.gone_are;
         faults_are = faults_more w.setup.user w.mmu.progress.seq w.setup.vcpus w.faults e w.past (λ j. refl) (λ u. refl) x.faults_are;
       };
-      stores = record { files_are = st.stores.files_are; frames_are = st.stores.frames_are };
+      stores = record {
+        files_are = subst (FilesAre w.files) (sym after) (record { count_is = st.stores.files_are.count_is; each = λ f d lf. record { state = (st.stores.files_are.each f d lf).state; cached_are = (st.stores.files_are.each f d lf).cached_are }; none_beyond = st.stores.files_are.none_beyond; nothing_beyond = st.stores.files_are.nothing_beyond });
+        frames_are = subst (FramesAre w.frames w.setup.frames) (sym after) (record { count_is = st.stores.frames_are.count_is; next_is = st.stores.frames_are.next_is; free_are = st.stores.frames_are.free_are });
+      };
       memory = record {
         seats_are = seats_more w.mmu.requests w.setup.vcpus e w.past (λ u. refl) (λ u. refl) m.seats_are;
         buffers_are = buffers_more w.setup.user w.setup.vcpus w.mmu.fills e w.past (λ u. refl) m.buffers_are;
@@ -270,9 +271,9 @@ command_get (c ∷ cs) zero = refl
 command_get (c ∷ cs) (suc n) = command_get cs n
 
 -- the call that makes a slot is the one that passes
-passes_now : (w : View) (c : ℕ) (r : Region) → next_command (orders_of w) (Caller c) w.past ≡ Some (CallCommand (Region2 r)) → IsPlainRegion w.setup.user r → passes_at w.setup.user w.callers c (done (Caller c) w.past) ≡ true
+passes_now : (w : View) (c : ℕ) (r : Region) → next_command (orders_of w) (Caller c) w.past ≡ Some (CallCommand (Region2 r)) → IsPlainRegion w.setup.user r → region_at w.setup.user w.callers c (done (Caller c) w.past) ≡ true
 passes_now w c r h p =
-    ap (is_passing w.setup.user) (sym (command_get (get_or w.callers c []) (done (Caller c) w.past)) ∙ h) ∙ ap has_none p.passes
+    ap (is_passing_region w.setup.user) (sym (command_get (get_or w.callers c []) (done (Caller c) w.past)) ∙ h) ∙ ap (λ (o : Option Errno). has_none o && true) p.passes
 
 no_more : (w : View) (c d k n : ℕ) → (c ≡ d) × (n ≡ k) → n ≡ done (Caller c) w.past → cond (eqb c d) (suc (done (Caller d) w.past)) (done (Caller d) w.past) ≤ k → ⊥
 no_more w c d k n e h le =
@@ -282,9 +283,11 @@ no_more w c d k n e h le =
     let z = e.1 in
     omega arith
 
-changes_over : (t : Bool) (x y : Option Call) → y ≡ None → cond t None (cond t (with_change (cond t x y)) (cond t x y)) ≡ None
-changes_over true x y e = refl
-changes_over false x y e = e
+pub changed_own : (t : Bool) (x y : Option Call) → t ≡ true → cond t None (cond t (with_change (cond t x y)) (cond t x y)) ≡ None
+changed_own true x y e = refl
+
+pub changed_other : (t : Bool) (x y : Option Call) → t ≡ false → cond t None (cond t (with_change (cond t x y)) (cond t x y)) ≡ y
+changed_other false x y e = refl
 
 own_changed : (t c : ℕ) (ioctl : Ioctl) (effect : Effect) (past : List Entry) → call c (by t (Caller c) (Change effect) ∷ by t (Caller c) (Judge ioctl) ∷ past) ≡ Some (judged_call ioctl past true)
 own_changed t c ioctl effect past =
@@ -326,7 +329,7 @@ make_turn w t c r s lt may plain planned =
     (λ d. idle_after w c d (a ∷ k) s.calls lt may.none_in_progress (changed_own (eqb c c) (Some (judged_call ioctl w.past false)) (call c w.past) (self c)))
     (λ u d lu ne. refl) (λ u ne. changed_other (eqb c u) (Some (judged_call ioctl w.past false)) (call u w.past) ne)
     (pages_same w.setup (flat w.past) (flat (a ∷ k)) (ap (λ (f : Flat). f.files) (after_make w1 t c r st1 plain))) (λ u. refl))
-    (λ d n p le. absurd (no_more w c d n (done (Caller c) w.past) (s.stands.commanded.one_passes c (done (Caller c) w.past) d n (passes_now w c r may.command plain) p) refl le))
+    (λ d n p le. absurd (no_more w c d n (done (Caller c) w.past) (s.stands.commanded.one_region c (done (Caller c) w.past) d n (passes_now w c r may.command plain) p) refl le))
     tt (next_new t)
 
 -- what a call comes to

@@ -13,6 +13,8 @@ pub mod Looking
 pub mod Installing
 pub mod Served
 pub mod Touching
+pub mod Files
+pub mod Calls
 pub mod Calling
 pub mod Commands
 pub mod Opening

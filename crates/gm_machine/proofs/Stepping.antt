@@ -9,11 +9,10 @@ use Rattle.gm_base.specs.declared.values.Setup.{Setup}
 use Rattle.gm_flat.specs.Histories.{Bracket}
 use Rattle.gm_flat.specs.RightOrder.{IsBlocked, WaitsToAck}
 use Rattle.gm_laws.proofs.RuledIsRight.{right}
-use Rattle.gm_machine.proofs.Calling.{no_lock}
 use Rattle.gm_machine.proofs.Gone.{flag_of-no_flags}
 use Rattle.gm_machine.proofs.Quiet.{sizes_kept}
 use Rattle.gm_machine.specs.Flags.{Flags, no_flags, with_flag}
-use Rattle.gm_machine.specs.Settled.{IsCalm, Kicked, RoomIsKept, Settled, Taken, Turned}
+use Rattle.gm_machine.specs.Settled.{Kicked, RoomIsKept, Settled, Taken, Turned}
 use Rattle.gm_machine.specs.Stands.{Stands}
 use Rattle.gm_machine.specs.Steps.{Goes, Kicks, Moves, Seen}
 use Rattle.gm_machine.specs.Views.{View, orders_of, values_of}
@@ -47,7 +46,7 @@ roomier_stands w n st =
     }
 
 pub roomier_settled : (w : View) (n t : ℕ) → Settled w t → Settled (roomier w n) t
-roomier_settled w n t s = record { stands = roomier_stands w n s.stands; calm = s.calm; due = s.due; ruled = s.ruled; new_turn = s.new_turn }
+roomier_settled w n t s = record { stands = roomier_stands w n s.stands; calls = s.calls; due = s.due; ruled = s.ruled; new_turn = s.new_turn }
 
 -- a turn uses up all room
 pub room_cleared : (old new : Parts) (room : Flags) → RoomIsKept old room → orders_of (values_of new) ≡ orders_of (values_of old) → RoomIsKept new (no_flags (length room.vcpus) (length room.callers))
@@ -65,14 +64,6 @@ room_none p s e = record {
   roomy = λ a h. absurd (both_ways _ (flag_of-no_flags s.vcpus s.callers a) h);
 }
 
--- where no call is in progress, nobody waits
-unblocked : (w : View) (t : ℕ) (a : Actor) → IsCalm w.past → IsBlocked (orders_of w) a w.past → ⊥
-unblocked w t (Vcpu v) calm h = h
-unblocked w t (Caller c) calm h = elim h [
-  | inl j ↦ no_lock w t c j.ioctl calm j.waits
-  | inr k ↦ subst (λ (b : Option Bracket). WaitsToAck b w.past) (calm.no_bracket c) k
-]
-
 abbrev pub seen_of : Parts → ℕ → Flags → Seen
 seen_of p turns room = record { orders = orders_of (values_of p); past = p.log.past; turns = turns; room = room }
 
@@ -86,7 +77,7 @@ moved old new turns room a kick t = record {
 }
 
 pub stepped : (old new : Parts) (turns : ℕ) (room : Flags) (a : Actor) → Settled (values_of old) (turns + 1) → Taken old new (turns + 1) a → Goes (seen_of old turns room) (seen_of new (turns + 1) (no_flags (length room.vcpus) (length room.callers))) a
-stepped old new turns room a s t = record { present = t.present; unblocked = unblocked (values_of old) turns a s.calm; moves = moved old new turns room a false t.turned }
+stepped old new turns room a s t = record { present = t.present; unblocked = t.unblocked; moves = moved old new turns room a false t.turned }
 
 pub kicked : (old new : Parts) (turns v : ℕ) (room : Flags) → Kicked old new (turns + 1) v → Kicks (seen_of old turns room) (seen_of new (turns + 1) (no_flags (length room.vcpus) (length room.callers))) v
 kicked old new turns v room t = record { was_pending = t.was_pending; moves = moved old new turns room (Vcpu v) true t.turned }
