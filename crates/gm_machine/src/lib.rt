@@ -26,3 +26,6 @@ mod vcpu_turns;
 pub use laws::turns_play;
 pub use machine::Machine;
 pub use outcome::{Blocker, How, Outcome};
+
+#[cfg(test)]
+mod tests;

@@ -1,5 +1,5 @@
 -- What is read of a source.
-use Rattle.std.specs.Prelude.{◌≡◌, ℕ, ◌+◌, List, length}
+use Rattle.std.specs.Prelude.{◌≡◌, ℕ, ◌+◌, ◌≤◌, List, length}
 use Rattle.std.specs.declared.option.Option.{Option}
 use Rattle.std.specs.Io.KnownBytes.{Consumes, IsAtEnd}
 use Rattle.gm_base.specs.declared.numbers.TheConstants.{MOST_SCRIPT_BYTES}
@@ -13,4 +13,10 @@ pub record ReadAll (old new : Option (List ℕ)) (bytes : List ℕ) : Type 0 whe
 pub record TookTooMuch (old new : Option (List ℕ)) : Type 0 where
   pub bytes : List ℕ
   pub long : length bytes ≡ MOST_SCRIPT_BYTES + 1
+  pub taken : Consumes old new bytes
+
+-- no more was taken than a script may have
+pub record TookWithin (old new : Option (List ℕ)) : Type 0 where
+  pub bytes : List ℕ
+  pub short : length bytes ≤ MOST_SCRIPT_BYTES
   pub taken : Consumes old new bytes

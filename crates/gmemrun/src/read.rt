@@ -1,9 +1,9 @@
 //! Reads a source to its end.
 
-ghost use Rattle.std.specs.Prelude.{◌≡◌, ◌+◌, ◌++◌, ◌<◌, ◌≤◌, List, ℕ, length, take, IfOk, OnOk, IsErrOf};
+ghost use Rattle.std.specs.Prelude.{◌≡◌, ◌+◌, ◌++◌, ◌<◌, ◌≤◌, [], List, ℕ, length, take, IfOk, OnOk, IsErrOf};
 ghost use Rattle.std.specs.Io.KnownBytes.{Consumes, IsAtEnd};
 ghost use Rattle.gm_io.specs.Causes.{Rose};
-ghost use Rattle.gmemrun.specs.Reading.{ReadAll, TookTooMuch};
+ghost use Rattle.gmemrun.specs.Reading.{ReadAll, TookTooMuch, TookWithin};
 
 use gm_base::{MOST_SCRIPT_BYTES, NoMemory};
 use gm_io::Source;
@@ -25,6 +25,7 @@ pub fn read_all<S: Source>(alloc: Global, source: &mut S) -> Result<Vec<u8>, Unr
     ensures bytes { IfOk result (λ v. ReadAll (S.left source.old) (S.left source.new) v.items) }
     ensures short { IfOk result (λ v. length v.items ≤ MOST_SCRIPT_BYTES) }
     ensures failed { IsErrOf result Unread.Failed → Rose (S.faults source.old) (S.faults source.new) }
+    ensures few { IsErrOf result Unread.Failed → TookWithin (S.left source.old) (S.left source.new) }
     ensures long { IsErrOf result Unread.TooLong → TookTooMuch (S.left source.old) (S.left source.new) }
     ensures later { S.faults source.old ≤ S.faults source.new }
 {
@@ -64,6 +65,7 @@ fn read_some<S: Source>(
     ensures room { length buffer.new.items ≡ 65536 }
     ensures later { S.faults source.old ≤ S.faults source.new }
     ensures failed { IsErrOf result Unread.Failed → Rose (S.faults source.old) (S.faults source.new) }
+    ensures none { IsErrOf result Unread.Failed → Consumes (S.left source.old) (S.left source.new) [] }
     ensures not_long { IsErrOf result Unread.TooLong → ⊥ }
 {
     let room = (MOST_SCRIPT_BYTES + 1 - bytes.len()).min(PIECE);

@@ -1,6 +1,6 @@
 //! Runs a script's turns in their order.
 
-ghost use Rattle.std.specs.Prelude.{◌≡◌, ◌+◌, ◌<◌, ◌≤◌, ◌-◌, ◌^◌, [], length, reverse, IfOk, IfSome, OnOk, All, None, List, ℕ};
+ghost use Rattle.std.specs.Prelude.{◌≡◌, ◌+◌, ◌<◌, ◌≤◌, ◌-◌, ◌^◌, [], length, reverse, IfOk, IfSome, OnOk, All, None, List, ℕ, ◌⊎◌};
 ghost use Rattle.gm_base.specs.Scripts.{IsOf, IsTurnOf};
 ghost use Rattle.gm_base.specs.declared.script.Turn.TheVariants.{Next, Kick};
 ghost use Rattle.gm_io.specs.Causes.{Rose};
@@ -29,6 +29,8 @@ pub fn run_steps<S: Source, K: Sink>(alloc: Global, source: &mut S, sink: &mut K
     ensures write_fault { result ≡ Status.WriteFault → Rose (K.faults sink.old) (K.faults sink.new) }
     ensures front { result ≡ Status.WriteFault → IfSome (S.left source.old) (λ bytes. WroteFront bytes (K.held sink.old) (K.held sink.new)) }
     ensures too_long { result ≡ Status.TooLong → TookTooMuch (S.left source.old) (S.left source.new) }
+    ensures long_only { IfSome (S.left source.old) (λ _. TookTooMuch (S.left source.old) (S.left source.new) → (result ≡ Status.TooLong) ⊎ (result ≡ Status.NoMemory)) }
+    ensures bad_only { IfSome (S.left source.old) (λ bytes. IfSome (K.held sink.new) (λ _. Refused bytes (K.held sink.old) (K.held sink.new) → (result ≡ Status.BadScript) ⊎ (result ≡ Status.WriteFault))) }
     ensures usage { result ≡ Status.Usage → ⊥ }
     ensures nothing { IsSilent result → K.held sink.new ≡ K.held sink.old }
     ensures complete { (Rose (S.faults source.old) (S.faults source.new) → ⊥) → (Rose (K.faults sink.old) (K.faults sink.new) → ⊥) → IfSome (S.left source.old) (λ bytes. EndsBy bytes result) }
@@ -49,6 +51,7 @@ fn run_bytes<K: Sink>(alloc: Global, bytes: &[u8], sink: &mut K) -> Status
     ensures usage { result ≡ Status.Usage → ⊥ }
     ensures no_read { result ≡ Status.ReadFault → ⊥ }
     ensures not_long { result ≡ Status.TooLong → ⊥ }
+    ensures bad_only { IfSome (K.held sink.new) (λ _. Refused bytes.now (K.held sink.old) (K.held sink.new) → (result ≡ Status.BadScript) ⊎ (result ≡ Status.WriteFault)) }
     ensures nothing { IsSilent result → K.held sink.new ≡ K.held sink.old }
     ensures complete { (Rose (K.faults sink.old) (K.faults sink.new) → ⊥) → EndsAs (script_of bytes.now) result }
 {

@@ -1,6 +1,6 @@
 //! The call that does all that the program does.
 
-ghost use Rattle.std.specs.Prelude.{◌≡◌, ◌↔◌, IfSome, IsTrue};
+ghost use Rattle.std.specs.Prelude.{◌≡◌, ◌↔◌, ◌⊎◌, IfSome, IsTrue};
 ghost use Rattle.gm_io.specs.Causes.{Rose};
 ghost use Rattle.gmemrun.specs.Reading.{TookTooMuch};
 ghost use Rattle.gmemrun.specs.Running.{EndsBy, Ran, Refused, WroteFront, IsSilent};
@@ -38,6 +38,8 @@ pub fn run<R: Threads + Wait + Sync, S: Source, K: Sink, G: Gate + Sync>(
     ensures write_fault { result ≡ Status.WriteFault → Rose (K.faults sink.old) (K.faults sink.new) }
     ensures front { result ≡ Status.WriteFault → IfSome (S.left source.old) (λ bytes. WroteFront bytes (K.held sink.old) (K.held sink.new)) }
     ensures too_long { result ≡ Status.TooLong → TookTooMuch (S.left source.old) (S.left source.new) }
+    ensures long_only { IfSome (S.left source.old) (λ _. TookTooMuch (S.left source.old) (S.left source.new) → (result ≡ Status.TooLong) ⊎ (result ≡ Status.NoMemory)) }
+    ensures bad_only { IfSome (S.left source.old) (λ bytes. IfSome (K.held sink.new) (λ _. Refused bytes (K.held sink.old) (K.held sink.new) → (result ≡ Status.BadScript) ⊎ (result ≡ Status.WriteFault))) }
     ensures nothing { IsSilent result → K.held sink.new ≡ K.held sink.old }
     ensures complete { IsSteps words.now → (Rose (S.faults source.old) (S.faults source.new) → ⊥) → (Rose (K.faults sink.old) (K.faults sink.new) → ⊥) → IfSome (S.left source.old) (λ bytes. EndsBy bytes result) }
     ensures unread { result ≡ Status.Usage → S.left source.new ≡ S.left source.old }

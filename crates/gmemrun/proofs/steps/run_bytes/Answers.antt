@@ -2,6 +2,7 @@ use Rattle.std.proofs.Common.{◌≡◌, ◌∙◌, ap, inl, inr, length}
 use Rattle.gm_base.specs.Scripts.{Orders}
 use Rattle.gm_machine.proofs.Playing.{plays_turns}
 use Rattle.gm_script.specs.Grammar.{script_of, Bad}
+use Rattle.gmemrun.proofs.Exactly.{not_refused}
 use Rattle.gmemrun.proofs.steps.run_bytes.Goals as goal
 
 pub returns-in-Ok-write_history-clause-ok : goal.returns-in-Ok-write_history-clause-ok
@@ -45,3 +46,6 @@ returns-in-Ok-play-clause-front g c = λ h.
       };
       written = rw (setup, turns) at (c.in-Err-write_history.ensures {u = tt}).wrote;
     })
+
+pub returns-clause-bad_only : goal.returns-clause-bad_only
+returns-clause-bad_only g c = not_refused _ c.args.bytes.now (g.K.Sink.held c.args.sink.now)
