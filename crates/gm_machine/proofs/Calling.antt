@@ -1,6 +1,6 @@
 -- The turns of callers: a call that is refused, one that makes a slot, and the end.
 use Rattle.std.proofs.Common.{◌≡◌, ℕ, zero, Ok, ◌+◌, ◌%◌, ◌<◌, ◌≤◌, ◌&&◌, leb, List, [], ◌∷◌, Bool, true, false, length, get_or, set, suc, Option, Some, None, slice_get, arith, subst, sym, ◌∙◌, ap, refl, cond, eqb, inl, inr, ◌⊎◌}
-use Rattle.std.proofs.lemmas.Bool.{cond-true, cond-false, eq-eqb, ne_eqb}
+use Rattle.std.proofs.lemmas.Bool.{both_ways, cond-true, cond-false, eq-eqb, ne_eqb}
 use Rattle.std.proofs.lemmas.Bool.Decides.{nat_tests}
 use Rattle.std.proofs.lemmas.List.{length-set}
 use Rattle.gm_base.specs.declared.calls.Ioctl.{Ioctl}
@@ -93,18 +93,20 @@ close_turn w t c s lt g n =
 -- a call
 
 -- the call that was judged in this turn
-abbrev judged_call : Ioctl → List Entry → Bool → Call
+abbrev pub judged_call : Ioctl → List Entry → Bool → Call
 judged_call ioctl past made = record { judged = length past; ioctl = ioctl; made = made; pages = 0 }
 
-own_call : (t c : ℕ) (ioctl : Ioctl) (past : List Entry) → call c (by t (Caller c) (Judge ioctl) ∷ past) ≡ Some (judged_call ioctl past false)
+pub own_call : (t c : ℕ) (ioctl : Ioctl) (past : List Entry) → call c (by t (Caller c) (Judge ioctl) ∷ past) ≡ Some (judged_call ioctl past false)
 own_call t c ioctl past = cond-true (eqb c c) (Some (judged_call ioctl past false)) (call c past) (self c)
 
 -- where a call is over, for its caller and for another
-over_none : (t : Bool) (x y : Option Call) → t ≡ true → cond t None (cond t x y) ≡ None
+pub over_none : (t : Bool) (x y : Option Call) → t ≡ true → cond t None (cond t x y) ≡ None
 over_none true x y e = refl
+over_none false x y e = absurd (both_ways false refl e)
 
-over_other : (t : Bool) (x y : Option Call) → t ≡ false → cond t None (cond t x y) ≡ y
+pub over_other : (t : Bool) (x y : Option Call) → t ≡ false → cond t None (cond t x y) ≡ y
 over_other false x y e = refl
+over_other true x y e = absurd (both_ways true e refl)
 
 answered_set : (w : View) (c : ℕ) (e : Entry) (past : List Entry) → Stands w → c < w.setup.callers → done (Caller c) (e ∷ past) ≡ suc (done (Caller c) w.past) → ((d : ℕ) → eqb c d ≡ false → done (Caller d) (e ∷ past) ≡ done (Caller d) w.past) → AnsweredAre (set w.answered c (get_or w.answered c 0 + 1)) w.setup.callers (e ∷ past)
 answered_set w c e past st lt here others =
@@ -116,7 +118,7 @@ answered_set w c e past st lt here others =
     plus_one a b h = omega arith
 
 -- the plan of a call that was judged right before, or one entry more before
-plan_now : (w : View) (t c : ℕ) (ioctl : Ioctl) (made : Bool) → plan_of w.setup (judged_call ioctl w.past made) (by t (Caller c) (Judge ioctl) ∷ w.past) ≡ plan w.setup ioctl (flat w.past)
+pub plan_now : (w : View) (t c : ℕ) (ioctl : Ioctl) (made : Bool) → plan_of w.setup (judged_call ioctl w.past made) (by t (Caller c) (Judge ioctl) ∷ w.past) ≡ plan w.setup ioctl (flat w.past)
 plan_now w t c ioctl made = ap (λ (f : Flat). plan w.setup ioctl f) (flat_at_keep (length w.past) (by t (Caller c) (Judge ioctl)) w.past (omega arith) ∙ flat_at_all w.past)
 
 -- the refusal of a call
@@ -242,7 +244,7 @@ change_stands w t c r st p =
         faults_are = faults_more w.setup.user w.mmu.progress.seq w.setup.vcpus w.faults e w.past (λ j. refl) (λ u. refl) x.faults_are;
       };
       stores = record {
-        files_are = subst (FilesAre w.files) (sym after) (record { count_is = st.stores.files_are.count_is; each = λ f d lf. record { state = (st.stores.files_are.each f d lf).state; cached_are = (st.stores.files_are.each f d lf).cached_are }; none_beyond = st.stores.files_are.none_beyond; nothing_beyond = st.stores.files_are.nothing_beyond });
+        files_are = subst (FilesAre w.files) (sym after) (record { count_is = st.stores.files_are.count_is; each = λ f d lf. record { state = (st.stores.files_are.each f d lf).state; cached_are = (st.stores.files_are.each f d lf).cached_are; pages_small = (st.stores.files_are.each f d lf).pages_small }; none_beyond = st.stores.files_are.none_beyond; nothing_beyond = st.stores.files_are.nothing_beyond });
         frames_are = subst (FramesAre w.frames w.setup.frames) (sym after) (record { count_is = st.stores.frames_are.count_is; next_is = st.stores.frames_are.next_is; free_are = st.stores.frames_are.free_are });
       };
       memory = record {
@@ -285,15 +287,17 @@ no_more w c d k n e h le =
 
 pub changed_own : (t : Bool) (x y : Option Call) → t ≡ true → cond t None (cond t (with_change (cond t x y)) (cond t x y)) ≡ None
 changed_own true x y e = refl
+changed_own false x y e = absurd (both_ways false refl e)
 
 pub changed_other : (t : Bool) (x y : Option Call) → t ≡ false → cond t None (cond t (with_change (cond t x y)) (cond t x y)) ≡ y
 changed_other false x y e = refl
+changed_other true x y e = absurd (both_ways true e refl)
 
-own_changed : (t c : ℕ) (ioctl : Ioctl) (effect : Effect) (past : List Entry) → call c (by t (Caller c) (Change effect) ∷ by t (Caller c) (Judge ioctl) ∷ past) ≡ Some (judged_call ioctl past true)
+pub own_changed : (t c : ℕ) (ioctl : Ioctl) (effect : Effect) (past : List Entry) → call c (by t (Caller c) (Change effect) ∷ by t (Caller c) (Judge ioctl) ∷ past) ≡ Some (judged_call ioctl past true)
 own_changed t c ioctl effect past =
     cond-true (eqb c c) (with_change (call c (by t (Caller c) (Judge ioctl) ∷ past))) (call c (by t (Caller c) (Judge ioctl) ∷ past)) (self c) ∙ ap with_change (own_call t c ioctl past)
 
-plan_then : (w : View) (t c : ℕ) (ioctl : Ioctl) (effect : Effect) (made : Bool) → plan_of w.setup (judged_call ioctl w.past made) (by t (Caller c) (Change effect) ∷ by t (Caller c) (Judge ioctl) ∷ w.past) ≡ plan w.setup ioctl (flat w.past)
+pub plan_then : (w : View) (t c : ℕ) (ioctl : Ioctl) (effect : Effect) (made : Bool) → plan_of w.setup (judged_call ioctl w.past made) (by t (Caller c) (Change effect) ∷ by t (Caller c) (Judge ioctl) ∷ w.past) ≡ plan w.setup ioctl (flat w.past)
 plan_then w t c ioctl effect made =
     ap (λ (f : Flat). plan w.setup ioctl f) (flat_at_keep (length w.past) (by t (Caller c) (Change effect)) (by t (Caller c) (Judge ioctl) ∷ w.past) (omega arith))
     ∙ plan_now w t c ioctl made

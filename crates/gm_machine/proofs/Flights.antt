@@ -33,7 +33,7 @@ stage_more : (user q : ℕ) (e : Entry) (past : List Entry) (page : ℕ) (x : Op
 stage_more user q e past page None None None None None None n t = tt
 stage_more user q e past page (Some x) None None (Some s) None None n t = sample_more q e past x s n t
 stage_more user q e past page (Some x) (Some y) None (Some s) (Some l) None n t = (sample_more q e past x s n t.0, look_more user e past page y l t.1)
-stage_more user q e past page (Some x) (Some y) (Some b) (Some s) (Some l) (Some g) n t = (sample_more q e past x s n t.0, look_more user e past page y l t.1, t.2)
+stage_more user q e past page (Some x) (Some y) (Some b) (Some s) (Some l) (Some g) n t = (sample_more q e past x s n t.0, look_more user e past page y l t.1, t.2, t.3)
 stage_more user q e past page x y b s l g n t = absurd t
 
 pub fault_more : (user q : ℕ) (e : Entry) (past : List Entry) (t : Option Ticket) (x : Fault) → IsNoEnd e past → FaultIs user q past t x → FaultIs user q (e ∷ past) t x

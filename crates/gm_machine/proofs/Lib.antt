@@ -13,9 +13,14 @@ pub mod Looking
 pub mod Installing
 pub mod Served
 pub mod Touching
-pub mod Files
+pub mod Stored
 pub mod Calls
 pub mod Calling
+pub mod Filing
+pub mod Waits
+pub mod Allocating
+pub mod Rows
+pub mod Rooming
 pub mod Commands
 pub mod Opening
 pub mod Stepping

@@ -35,7 +35,7 @@ turn_by w w2 t a ws kick s is st p o may row k freed calls due here next =
     record {
       settled = record {
         stands = st;
-        calls = calm;
+        calls = calls;
         due = subst (λ (x : Orders). SlotsAreDue x w2.past) (sym o) (subst (SlotsAreDue (orders_of w)) (sym p) due);
         ruled = subst (λ (x : Orders). Ruled x w2.past) (sym o) (subst (Ruled (orders_of w)) (sym p) (turn_ruled (orders_of w) t a ws w.past turn s.ruled));
         new_turn = subst (IsNewTurn (t + 1)) (sym p) next;

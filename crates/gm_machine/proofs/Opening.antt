@@ -1,23 +1,28 @@
 -- A new machine.
-use Rattle.std.proofs.Common.{◌≡◌, ℕ, ◌<◌, List, [], false, length, get_or, replicate, Option, None, true, ltb, arith, ◌∙◌, ap, refl}
+use Rattle.std.proofs.Common.{◌≡◌, ℕ, ◌<◌, List, [], false, length, get_or, replicate, Option, None, true, ltb, arith, ◌∙◌, ap, refl, subst}
 use Rattle.std.proofs.lemmas.Bool.{both_ways}
 use Rattle.std.proofs.lemmas.Bool.Decides.{nat_tests}
 use Rattle.std.proofs.lemmas.List.{get_or-replicate, length-replicate}
 use Rattle.gm_base.specs.Scripts.{Schedule}
+use Rattle.gm_base.specs.declared.script.Command.{Command}
+use Rattle.gm_base.specs.declared.values.Setup.{Setup}
 use Rattle.gm_fault.specs.declared.ticket.Ticket.{Ticket}
+use Rattle.gm_file.specs.Views.{FileView}
 use Rattle.gm_flat.specs.FlatState.{start}
 use Rattle.gm_flat.specs.Histories.{NoFault}
+use Rattle.gm_flat.specs.declared.entry.Entry.{Entry}
 use Rattle.gm_laws.specs.Ruled.{AllFreed}
 use Rattle.gm_mmu.specs.Served.{Serving}
 use Rattle.gm_pool.specs.Pools.{Frames, use_in, is_free as frame_is_free}
 use Rattle.gm_pool.specs.declared.uses.Use.{Use}
+use Rattle.gm_slots.specs.Changes.{SlotList}
 use Rattle.gm_tlb.specs.Requests.{Requests, outside}
 use Rattle.gm_tlb.specs.declared.ring.Seat.{Seat}
 use Rattle.gm_tlb.specs.declared.tlb.Fill.{Fill}
 use Rattle.gm_words.specs.Banks.{word_in}
 use Rattle.gm_machine.proofs.Gone.{flag_of-no_flags}
 use Rattle.gm_machine.proofs.Lists.{replicate_each}
-use Rattle.gm_machine.specs.Flags.{no_flags}
+use Rattle.gm_machine.specs.Flags.{Flags, no_flags}
 use Rattle.gm_machine.specs.Settled.{Settled}
 use Rattle.gm_machine.specs.Stands.{Stands}
 use Rattle.gm_machine.specs.Ties.{FaultIs, FillsAre, PagingIs, SeatIs}
@@ -80,6 +85,8 @@ opens s mmu user frames even m len zero_words fresh =
         bank = len;
         no_blocks = even.setup.huge;
         user_small = even.setup.user;
+        frames_small = even.setup.frames;
+        callers_small = even.setup.callers;
       };
       commanded = record { touches = even.touches; calls = even.calls; one_region = even.one_region };
       actors = record {
@@ -115,3 +122,14 @@ opens s mmu user frames even m len zero_words fresh =
   where
     nothing_loose : AllFreed []
     nothing_loose h = absurd (both_ways false refl h)
+
+-- the same, from what each part is
+pub opens_by : (s : Schedule) (setup : Setup) (vcpus callers : List (List Command)) (past : List Entry) (mmu : Serving) (slots : SlotList) (user : List (List ℕ)) (frames : Frames) (files : List FileView) (faults : List (Option Ticket)) (ended answered : List ℕ) (pagings : List (Option Paging)) (gone : Flags) → setup ≡ s.orders.setup → vcpus ≡ s.orders.vcpus → callers ≡ s.orders.callers → past ≡ [] → slots ≡ record { slots = []; generation = 0 } → files ≡ [] → faults ≡ replicate setup.vcpus None → ended ≡ replicate setup.vcpus 0 → answered ≡ replicate setup.callers 0 → pagings ≡ replicate setup.callers None → gone ≡ no_flags setup.vcpus setup.callers → IsEven s → IsFreshMmu setup.vcpus mmu → length user ≡ setup.user → ((page word : ℕ) → word_in user page word ≡ 0) → frames ≡ record { uses = replicate setup.frames None; next = 0 } → Settled (record { setup = setup; vcpus = vcpus; callers = callers; past = past; mmu = mmu; slots = slots; user = user; frames = frames; files = files; faults = faults; ended = ended; answered = answered; pagings = pagings; gone = gone }) 1
+opens_by s setup vcpus callers past mmu slots user frames files faults ended answered pagings gone a b c d e f g h i j k even m len zero_words fresh =
+    let g2 : faults ≡ replicate s.orders.setup.vcpus None = g ∙ ap (λ (x : Setup). replicate x.vcpus None) a in
+    let h2 : ended ≡ replicate s.orders.setup.vcpus 0 = h ∙ ap (λ (x : Setup). replicate x.vcpus 0) a in
+    let i2 : answered ≡ replicate s.orders.setup.callers 0 = i ∙ ap (λ (x : Setup). replicate x.callers 0) a in
+    let j2 : pagings ≡ replicate s.orders.setup.callers None = j ∙ ap (λ (x : Setup). replicate x.callers None) a in
+    let k2 : gone ≡ no_flags s.orders.setup.vcpus s.orders.setup.callers = k ∙ ap (λ (x : Setup). no_flags x.vcpus x.callers) a in
+    rw (a, b, c, d, e, f, g2, h2, i2, j2, k2)
+    (opens s mmu user frames even (subst (λ (x : Setup). IsFreshMmu x.vcpus mmu) a m) (len ∙ ap (λ (x : Setup). x.user) a) zero_words (fresh ∙ ap (λ (x : Setup). record { uses = replicate x.frames None; next = 0 }) a))

@@ -39,6 +39,8 @@ sizes_kept w past mmu slots user faults ended answered gone s a b c d e f g h = 
   bank = c ∙ s.bank;
   no_blocks = s.no_blocks;
   user_small = s.user_small;
+  frames_small = s.frames_small;
+  callers_small = s.callers_small;
 }
 
 pub buffers_more : (user n : ℕ) (bs : List (List Fill)) (e : Entry) (past : List Entry) → ((v : ℕ) → fills v (e ∷ past) ≡ fills v past) → BuffersAre user n bs past → BuffersAre user n bs (e ∷ past)

@@ -10,43 +10,14 @@ use Rattle.gm_flat.specs.Histories.{Bracket}
 use Rattle.gm_flat.specs.RightOrder.{IsBlocked, WaitsToAck}
 use Rattle.gm_laws.proofs.RuledIsRight.{right}
 use Rattle.gm_machine.proofs.Gone.{flag_of-no_flags}
+use Rattle.gm_machine.proofs.Rooming.{flag_either}
 use Rattle.gm_machine.proofs.Quiet.{sizes_kept}
 use Rattle.gm_machine.specs.Flags.{Flags, no_flags, with_flag}
-use Rattle.gm_machine.specs.Settled.{Kicked, RoomIsKept, Settled, Taken, Turned}
+use Rattle.gm_machine.specs.Settled.{IsRoomier, IsRoomyFor, Kicked, RoomIsKept, Settled, Taken, Turned}
 use Rattle.gm_machine.specs.Stands.{Stands}
 use Rattle.gm_machine.specs.Steps.{Goes, Kicks, Moves, Seen}
 use Rattle.gm_machine.specs.Views.{View, orders_of, values_of}
 use Rattle.gm_machine.specs.declared.parts.Parts.{Parts}
-
--- more room for leaves changes nothing else
-abbrev pub roomier : View → ℕ → View
-roomier w n = record w { mmu = record w.mmu { spare = n } }
-
-roomier_stands : (w : View) (n : ℕ) → Stands w → Stands (roomier w n)
-roomier_stands w n st =
-    let m = st.memory in
-    let x = st.actors in
-    record {
-      sizes = sizes_kept w w.past (roomier w n).mmu w.slots w.user w.faults w.ended w.answered w.gone st.sizes refl refl refl refl refl refl refl refl;
-      commanded = st.commanded;
-      actors = record { ended_are = x.ended_are; answered_are = x.answered_are; gone_are = x.gone_are; faults_are = x.faults_are };
-      stores = record { files_are = st.stores.files_are; frames_are = st.stores.frames_are };
-      memory = record {
-        seats_are = m.seats_are;
-        buffers_are = m.buffers_are;
-        leaves_are = m.leaves_are;
-        count_is = m.count_is;
-        range_is = m.range_is;
-        words_are = m.words_are;
-        slots_are = m.slots_are;
-        generation_is = m.generation_is;
-        slots_bounded = m.slots_bounded;
-        all_shared = m.all_shared;
-      };
-    }
-
-pub roomier_settled : (w : View) (n t : ℕ) → Settled w t → Settled (roomier w n) t
-roomier_settled w n t s = record { stands = roomier_stands w n s.stands; calls = s.calls; due = s.due; ruled = s.ruled; new_turn = s.new_turn }
 
 -- a turn uses up all room
 pub room_cleared : (old new : Parts) (room : Flags) → RoomIsKept old room → orders_of (values_of new) ≡ orders_of (values_of old) → RoomIsKept new (no_flags (length room.vcpus) (length room.callers))
@@ -54,6 +25,28 @@ room_cleared old new room r o = record {
   room_vcpus = length-replicate (length room.vcpus) false ∙ (r.room_vcpus ∙ sym (ap (λ (x : Orders). x.setup.vcpus) o));
   room_callers = length-replicate (length room.callers) false ∙ (r.room_callers ∙ sym (ap (λ (x : Orders). x.setup.callers) o));
   roomy = λ a e. absurd (both_ways _ (flag_of-no_flags (length room.vcpus) (length room.callers) a) e);
+}
+
+pub flag_lengths : (f : Flags) (a : Actor) → (length (with_flag f a).vcpus ≡ length f.vcpus) × (length (with_flag f a).callers ≡ length f.callers)
+flag_lengths f (Vcpu v) = (length-set f.vcpus v true, refl)
+flag_lengths f (Caller c) = (refl, length-set f.callers c true)
+
+-- more room is kept, and an actor may have it as well
+pub room_roomier : (old new : Parts) (room : Flags) → IsRoomier old new → RoomIsKept old room → RoomIsKept new room
+room_roomier old new room m r = record {
+  room_vcpus = r.room_vcpus ∙ sym (ap (λ (x : Orders). x.setup.vcpus) m.orders);
+  room_callers = r.room_callers ∙ sym (ap (λ (x : Orders). x.setup.callers) m.orders);
+  roomy = λ a e. m.kept a (r.roomy a e);
+}
+
+pub room_set : (p : Parts) (room : Flags) (a : Actor) → RoomIsKept p room → IsRoomyFor p a → RoomIsKept p (with_flag room a)
+room_set p room a r own = record {
+  room_vcpus = (flag_lengths room a).0 ∙ r.room_vcpus;
+  room_callers = (flag_lengths room a).1 ∙ r.room_callers;
+  roomy = λ b e. elim (flag_either room a b e) [
+    | inl same ↦ subst (IsRoomyFor p) same own
+    | inr other ↦ r.roomy b other
+  ];
 }
 
 -- a new machine has no room
@@ -81,7 +74,3 @@ stepped old new turns room a s t = record { present = t.present; unblocked = t.u
 
 pub kicked : (old new : Parts) (turns v : ℕ) (room : Flags) → Kicked old new (turns + 1) v → Kicks (seen_of old turns room) (seen_of new (turns + 1) (no_flags (length room.vcpus) (length room.callers))) v
 kicked old new turns v room t = record { was_pending = t.was_pending; moves = moved old new turns room (Vcpu v) true t.turned }
-
-pub flag_lengths : (f : Flags) (a : Actor) → (length (with_flag f a).vcpus ≡ length f.vcpus) × (length (with_flag f a).callers ≡ length f.callers)
-flag_lengths f (Vcpu v) = (length-set f.vcpus v true, refl)
-flag_lengths f (Caller c) = (refl, length-set f.callers c true)

@@ -1,5 +1,5 @@
 -- A history and a list of files with room to spare.
-use Rattle.std.specs.Prelude.{◌≡◌, ◌≤◌, ◌-◌, ℕ, List, [], false, slice_index_or, slice_set}
+use Rattle.std.specs.Prelude.{◌-◌, ℕ, List, [], false, slice_index_or}
 use Rattle.gm_base.specs.declared.values.Folio.{Folio}
 use Rattle.gm_file.specs.Views.{FileView}
 use Rattle.gm_flat.specs.declared.entry.Entry.{Entry}
@@ -29,7 +29,3 @@ new_file pages = record { pages = pages; block = false; cached = []; bound = [];
 -- the file with a folio more, in its room
 abbrev pub with_page : FileView → ℕ → Folio → FileView
 with_page f index folio = record f { cached = put index folio f.cached; page_spare = f.page_spare - 1 }
-
--- one file may have more room, and else nothing changed
-abbrev pub spare_file : List FileView → List FileView → ℕ → Type 0
-spare_file old new number = (pages : ℕ) × (binds : ℕ) × ((file_at old number).page_spare ≤ pages) × (new ≡ slice_set old number (record (file_at old number) { page_spare = pages; bind_spare = binds }))

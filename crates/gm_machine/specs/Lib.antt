@@ -4,6 +4,7 @@ pub mod Kept
 pub mod Plans
 pub mod Played
 pub mod Settled
+pub mod Sparer
 pub mod Stands
 pub mod Steps
 pub mod Ties

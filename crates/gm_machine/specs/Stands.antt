@@ -6,7 +6,7 @@ use Rattle.gm_base.specs.Scripts.{Orders, IsOf}
 use Rattle.gm_base.specs.declared.calls.Ioctl.{Ioctl}
 use Rattle.gm_base.specs.declared.script.Command.TheVariants.{Touch, Call}
 use Rattle.gm_base.specs.declared.values.Kind.TheVariants.{Shared}
-use Rattle.gm_base.specs.declared.numbers.TheConstants.{KVM_MEM_READONLY, MOST_USER_PAGES}
+use Rattle.gm_base.specs.declared.numbers.TheConstants.{KVM_MEM_READONLY, MOST_CALLERS, MOST_FRAMES, MOST_USER_PAGES}
 use Rattle.gm_base.specs.declared.values.Actor.{Actor}
 use Rattle.gm_base.specs.declared.values.Actor.TheVariants.{Vcpu, Caller}
 use Rattle.gm_base.specs.declared.values.Op.{Op}
@@ -45,6 +45,8 @@ pub record Sizes (w : View) : Type 0 where
   pub bank : length w.user ≡ w.setup.user
   pub no_blocks : w.setup.huge ≡ false
   pub user_small : w.setup.user ≤ MOST_USER_PAGES
+  pub frames_small : w.setup.frames ≤ MOST_FRAMES
+  pub callers_small : w.setup.callers ≤ MOST_CALLERS
 
 -- the commands are of the forms that are built: accesses of shared memory, calls that their arguments refuse, that make a
 -- file or allocate pages, and one call that makes a slot

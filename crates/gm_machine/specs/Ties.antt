@@ -161,6 +161,7 @@ AnsweredAre answered n past = (c d : ℕ) → c < n → slice_index_or answered 
 pub record FileIs (x : FileView) (file : ℕ) (f : Flat) : Type 0 where
   pub state : file_by_number file f.files ≡ Some (record { number = file; pages = x.pages; block = false; used = true })
   pub cached_are : (index : ℕ) → lookup index x.cached ≡ cached file index f.cache
+  pub pages_small : x.pages ≤ PAGE_LIMIT
 
 pub record FilesAre (files : List FileView) (f : Flat) : Type 0 where
   pub count_is : length files ≡ length f.files

@@ -4,7 +4,8 @@ ghost use Rattle.std.specs.Prelude.{◌≡◌, ◌+◌, ◌-◌, ◌++◌, ◌�
 ghost use Rattle.gm_base.specs.declared.numbers.TheConstants.{PAGE_LIMIT};
 ghost use Rattle.gm_file.specs.Views.{FileView};
 ghost use Rattle.gm_radix.specs.Entries.{lookup, put, IsFirstGap};
-ghost use Rattle.gm_machine.specs.Kept.{file_at, new_file, spare_file, with_page};
+ghost use Rattle.gm_machine.specs.Kept.{file_at, new_file, with_page};
+ghost use Rattle.gm_machine.specs.Sparer.{FilesSparer};
 
 use gm_base::{Folio, NoMemory};
 use gm_file::File;
@@ -68,7 +69,7 @@ impl FileList {
     pub fn reserve_page(&mut self, number: u32) -> Result<(), NoMemory>
         requires { number < length self.old.files }
         ensures spare { self.new.spare ≡ self.old.spare }
-        ensures files { spare_file self.old.files self.new.files number }
+        ensures files { FilesSparer self.old.files self.new.files }
         ensures ok { OnOk result (1 ≤ (file_at self.new.files number).page_spare) }
     {
         self.files[number as usize].reserve(1, 0)

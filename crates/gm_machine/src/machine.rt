@@ -93,12 +93,16 @@ impl Machine {
     {
         match how {
             How::Next => {
-                let outcome = take_turn(&mut self.parts, self.turns + 1, actor);
-                if outcome == Outcome::Moved {
-                    self.turns += 1;
-                    self.room.clear();
+                match take_turn(&mut self.parts, self.turns + 1, actor) {
+                    Outcome::Moved => {
+                        self.turns += 1;
+                        self.room.clear();
+                        Outcome::Moved
+                    }
+                    Outcome::Waits(blocker) => Outcome::Waits(blocker),
+                    Outcome::Done => Outcome::Done,
+                    Outcome::Nothing => unreachable!(),
                 }
-                outcome
             }
             How::Kick => match actor {
                 Actor::Vcpu(v) => {

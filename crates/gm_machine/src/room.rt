@@ -1,8 +1,10 @@
 //! Room for a turn, so that a turn takes no memory.
 
-ghost use Rattle.std.specs.Prelude.{◌≡◌, ◌+◌, ◌<◌, ◌≤◌, OnOk, OnErr};
+ghost use Rattle.std.specs.Prelude.{◌≡◌, ◌+◌, ◌-◌, ◌^◌, ◌<◌, ◌≤◌, ℕ, OnOk, OnErr, length};
 ghost use Rattle.gm_base.specs.Scripts.{IsOf};
-ghost use Rattle.gm_machine.specs.Settled.{IsRoomier, IsRoomyFor, Settled};
+ghost use Rattle.gm_base.specs.declared.values.Actor.TheVariants.{Caller};
+ghost use Rattle.gm_machine.specs.Settled.{IsRoomier, IsRoomyFor, PageRoom, Settled};
+ghost use Rattle.gm_machine.specs.Sparer.{FilesSparer};
 ghost use Rattle.gm_machine.specs.Views.{values_of};
 
 use crate::parts::Parts;
@@ -28,7 +30,14 @@ pub fn make_room(parts: &mut Parts, actor: Actor) -> Result<(), NoMemory>
 }
 
 // Makes room for a page in the file to which the caller's call in progress adds pages.
-fn reserve_page(parts: &mut Parts, c: u32) -> Result<(), NoMemory> {
+fn reserve_page(parts: &mut Parts, c: u32) -> Result<(), NoMemory>
+    requires settled { (turn : ℕ) × Settled (values_of parts.old) turn }
+    requires actor { c < parts.old.setup.callers }
+    ensures same { parts.new ≡ record parts.old { files = parts.new.files } }
+    ensures spare { parts.new.files.spare ≡ parts.old.files.spare }
+    ensures files { FilesSparer parts.old.files.files parts.new.files.files }
+    ensures ok { OnOk result (PageRoom parts.new (Caller c)) }
+{
     match parts.pagings[c as usize] {
         Some(paging) => parts.files.reserve_page(paging.file),
         None => Ok(()),

@@ -1,18 +1,16 @@
-use Rattle.std.proofs.Common.{◌+◌, ◌∙◌}
-use Rattle.gm_machine.proofs.Stepping.{flag_lengths, roomier_settled}
-use Rattle.gm_machine.specs.Views.{values_of}
+use Rattle.std.proofs.Common.{◌+◌}
+use Rattle.gm_machine.proofs.Stepping.{room_roomier, room_set}
 use Rattle.gm_machine.proofs.machine.Machine.make_room.Goals as goal
+
+pub invariant_of-self : goal.invariant_of-self
+invariant_of-self c =
+    let r = c.make_room.ensures.roomier in
+    (r.settled (c.self.inside.turns + 1) c.self.invariant.0, room_roomier c.self.inside.parts c.make_room.new.parts c.self.inside.room r c.self.invariant.1)
 
 pub invariant_of-self-2 : goal.invariant_of-self-2
 invariant_of-self-2 c =
-    let parts = c.self.inside.parts in
-    let room = c.self.invariant.1 in
-    let lengths = flag_lengths c.self.inside.room c.args.actor in
-    let settled = roomier_settled (values_of parts) c.reserve-2.new.self.spare (c.self.inside.turns + 1) c.self.invariant.0 in (
-      rw (c.in_ok-reserve.ensures.past, c.in_ok-reserve-2.ensures.same) settled,
-      record {
-        room_vcpus = rw c.set.ensures.flags (lengths.0 ∙ room.room_vcpus);
-        room_callers = rw c.set.ensures.flags (lengths.1 ∙ room.room_callers);
-        roomy = λ a e. record { entries = c.in_ok-reserve.ensures.ok; leaves = c.in_ok-reserve-2.ensures.room };
-      },
+    let r = c.make_room.ensures.roomier in
+    (
+      r.settled (c.self.inside.turns + 1) c.self.invariant.0,
+      rw c.set.ensures.flags (room_set c.make_room.new.parts c.self.inside.room c.args.actor (room_roomier c.self.inside.parts c.make_room.new.parts c.self.inside.room r c.self.invariant.1) c.in_ok-make_room.ensures.ok),
     )

@@ -25,19 +25,19 @@ pub record FileFacts (file : ℕ) (s : FileState) (files : List FileState) : Typ
 
 pub file_facts : (file : ℕ) (s : FileState) (files : List FileState) → file_by_number file files ≡ Some s → FileFacts file s files
 file_facts file s [] e = absurd (cc)
-file_facts file s (f ∷ files) e = go (eqb f.number file) refl e
+file_facts file s (f ∷ files) e = go (eqb f.number file) refl (λ h. file_facts file s files h) e
   where
-    go : (t : Bool) → eqb f.number file ≡ t → cond t (Some f) (file_by_number file files) ≡ Some s → FileFacts file s (f ∷ files)
-    go true h k = let x : f ≡ s = cc in record { use_is = rw h (ap (λ (y : FileState). y.used) x); pages_are = rw h (ap (λ (y : FileState). y.pages) x); is_made = rw h refl }
-    go false h k = let x = file_facts file s files k in record { use_is = rw h x.use_is; pages_are = rw h x.pages_are; is_made = rw h x.is_made }
+    go : (t : Bool) → eqb f.number file ≡ t → (file_by_number file files ≡ Some s → FileFacts file s files) → cond t (Some f) (file_by_number file files) ≡ Some s → FileFacts file s (f ∷ files)
+    go true h rest k = let x : f ≡ s = cc in record { use_is = rw h (ap (λ (y : FileState). y.used) x); pages_are = rw h (ap (λ (y : FileState). y.pages) x); is_made = rw h refl }
+    go false h rest k = let x = rest k in record { use_is = rw h x.use_is; pages_are = rw h x.pages_are; is_made = rw h x.is_made }
 
 pub unused : (file : ℕ) (files : List FileState) → file_by_number file files ≡ None → in_use file files ≡ false
 unused file [] e = refl
-unused file (f ∷ files) e = go (eqb f.number file) refl e
+unused file (f ∷ files) e = go (eqb f.number file) refl (λ h. unused file files h) e
   where
-    go : (t : Bool) → eqb f.number file ≡ t → cond t (Some f) (file_by_number file files) ≡ None → in_use file (f ∷ files) ≡ false
-    go true h k = absurd (cc)
-    go false h k = rw h (unused file files k)
+    go : (t : Bool) → eqb f.number file ≡ t → (file_by_number file files ≡ None → in_use file files ≡ false) → cond t (Some f) (file_by_number file files) ≡ None → in_use file (f ∷ files) ≡ false
+    go true h rest k = absurd (cc)
+    go false h rest k = rw h (rest k)
 
 -- a file in use is one of the machine's
 pub below : (xs : List FileView) (f : Flat) (file : ℕ) → FilesAre xs f → in_use file f.files ≡ true → file < length xs
@@ -71,25 +71,26 @@ above_apart : (n k : ℕ) → suc n ≤ k → eqb n k ≡ false
 above_apart n k h = grind (arith, nat_tests)
 
 old_file : (x : FileView) (k pages : ℕ) (f : Flat) → eqb (length f.files) k ≡ false → FileIs x k f → FileIs x k (with_file pages f)
-old_file x k pages f ne h = record { state = rw ne h.state; cached_are = h.cached_are }
+old_file x k pages f ne h = record { state = rw ne h.state; cached_are = h.cached_are; pages_small = h.pages_small }
 
-own_file : (xs : List FileView) (pages : ℕ) (f : Flat) → FilesAre xs f → FileIs (new_file pages) (length xs) (with_file pages f)
-own_file xs pages f a =
+own_file : (xs : List FileView) (pages : ℕ) (f : Flat) → pages ≤ 4503599627370496 → FilesAre xs f → FileIs (new_file pages) (length xs) (with_file pages f)
+own_file xs pages f small a =
     let same : eqb (length f.files) (length xs) ≡ true = eq-eqb (length f.files) (length xs) (sym a.count_is) in
     record {
       state = rw same (ap (λ (n : ℕ). Some (state_of n pages)) (sym a.count_is));
       cached_are = λ index. sym (a.nothing_beyond (length xs) index (omega arith));
+      pages_small = small;
     }
 
-pub file_added : (xs : List FileView) (pages : ℕ) (f : Flat) → FilesAre xs f → FilesAre (xs ++ new_file pages ∷ []) (with_file pages f)
-file_added xs pages f a = record {
+pub file_added : (xs : List FileView) (pages : ℕ) (f : Flat) → pages ≤ 4503599627370496 → FilesAre xs f → FilesAre (xs ++ new_file pages ∷ []) (with_file pages f)
+file_added xs pages f small a = record {
   count_is = length-end xs (new_file pages) ∙ ap suc a.count_is;
   each = λ k d lt. elim (cases_lt k (length xs)) [
     | inl old ↦ subst (λ (x : FileView). FileIs x k (with_file pages f)) (sym (get_or-front xs (new_file pages) k d old)) (old_file (get_or xs k d) k pages f (subst (λ (n : ℕ). eqb n k ≡ false) a.count_is (less_apart (length xs) k old)) (a.each k d old))
     | inr ge ↦
         let here : length xs ≡ k = at_end k (length xs) (length (xs ++ new_file pages ∷ [])) (length-end xs (new_file pages)) lt ge in
         subst (λ (n : ℕ). FileIs (get_or (xs ++ new_file pages ∷ []) n d) n (with_file pages f)) here
-        (subst (λ (x : FileView). FileIs x (length xs) (with_file pages f)) (sym (get_or-end xs (new_file pages) d)) (own_file xs pages f a))
+        (subst (λ (x : FileView). FileIs x (length xs) (with_file pages f)) (sym (get_or-end xs (new_file pages) d)) (own_file xs pages f small a))
   ];
   none_beyond = λ k h. let ne : eqb (length f.files) k ≡ false = subst (λ (n : ℕ). eqb n k ≡ false) a.count_is (above_apart (length xs) k (longer k (length xs) (length (xs ++ new_file pages ∷ [])) (length-end xs (new_file pages)) h)) in rw ne (a.none_beyond k (less k (length xs) (length (xs ++ new_file pages ∷ [])) (length-end xs (new_file pages)) h));
   nothing_beyond = λ k index h. a.nothing_beyond k index (less k (length xs) (length (xs ++ new_file pages ∷ [])) (length-end xs (new_file pages)) h);
@@ -110,14 +111,16 @@ with_folio file index folio f = record f { cache = record { file = file; index =
 
 both_false : (t u : Bool) → t ≡ false → (t && u) ≡ false
 both_false false u e = refl
+both_false true u e = absurd (both_ways true e refl)
 
 other_cached : (x : FileView) (k file index : ℕ) (folio : Folio) (f : Flat) → eqb file k ≡ false → FileIs x k f → FileIs x k (with_folio file index folio f)
-other_cached x k file index folio f ne h = record { state = h.state; cached_are = λ i. let t : (eqb file k && eqb index i) ≡ false = both_false (eqb file k) (eqb index i) ne in rw t (h.cached_are i) }
+other_cached x k file index folio f ne h = record { state = h.state; cached_are = λ i. let t : (eqb file k && eqb index i) ≡ false = both_false (eqb file k) (eqb index i) ne in rw t (h.cached_are i); pages_small = h.pages_small }
 
 page_cached : (x y : FileView) (file index : ℕ) (folio : Folio) (f : Flat) → y.pages ≡ x.pages → ((k : ℕ) → lookup k y.cached ≡ cond (eqb k index) (Some folio) (lookup k x.cached)) → FileIs x file f → FileIs y file (with_folio file index folio f)
 page_cached x y file index folio f pages cached_is h = record {
   state = h.state ∙ ap (λ (n : ℕ). Some (state_of file n)) (sym pages);
   cached_are = λ i. cached_is i ∙ go i (eqb i index) refl;
+  pages_small = subst (λ (n : ℕ). n ≤ 4503599627370496) (sym pages) h.pages_small;
 }
   where
     flipped : (a b : ℕ) (t : Bool) → eqb a b ≡ t → eqb b a ≡ t

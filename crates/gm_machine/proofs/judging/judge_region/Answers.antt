@@ -1,7 +1,7 @@
 use Rattle.std.proofs.Common.{◌∙◌, sym}
 use Rattle.gm_machine.proofs.Calling.{change_made, none_made, region_passes}
 use Rattle.gm_machine.specs.Views.{values_of}
-use Rattle.gm_machine.proofs.caller_turns.judge_region.Goals as goal
+use Rattle.gm_machine.proofs.judging.judge_region.Goals as goal
 
 pub judge-requires : goal.judge-requires
 judge-requires c = region_passes c.args.parts.now.setup.user c.args.region c.requires.plain
