@@ -1,5 +1,5 @@
 -- An allocation: judged in one turn, then a page a turn, then answered.
-use Rattle.std.proofs.Common.{◌≡◌, ℕ, ◌+◌, ◌-◌, ◌<◌, ◌≤◌, ◌&&◌, leb, List, [], ◌∷◌, Bool, true, false, not, length, get_or, set, suc, Option, Some, None, arith, subst, sym, ◌∙◌, ap, refl, cond, eqb, inl, inr, ◌⊎◌}
+use Rattle.std.proofs.Common.{◌≡◌, ℕ, ◌+◌, ◌<◌, ◌≤◌, ◌&&◌, leb, List, [], ◌∷◌, true, false, length, get_or, set, suc, Option, Some, None, arith, subst, sym, ◌∙◌, ap, refl, cond, eqb, inl, inr}
 use Rattle.std.proofs.lemmas.Bool.{and_from, both_ways, cases_lt, cond-false, cond-true}
 use Rattle.std.proofs.lemmas.Bool.Decides.{nat_tests}
 use Rattle.std.proofs.lemmas.List.{get_or-set_other, get_or-set_same, length-set}
@@ -7,17 +7,15 @@ use Rattle.gm_base.specs.declared.calls.Ioctl.{Ioctl}
 use Rattle.gm_base.specs.declared.calls.Ioctl.TheVariants.{Allocate}
 use Rattle.gm_base.specs.declared.values.Actor.TheVariants.{Caller}
 use Rattle.gm_base.specs.declared.values.Folio.{Folio}
-use Rattle.gm_base.specs.declared.values.Setup.{Setup}
 use Rattle.gm_file.specs.Views.{FileView}
-use Rattle.gm_flat.specs.Calls.{PagePlan, Paged, Plan, file_pages, plan}
+use Rattle.gm_flat.specs.Calls.{PagePlan, Paged, Plan, plan}
 use Rattle.gm_flat.specs.Effects.{Addition, add, addition_fits, page_addition, source}
-use Rattle.gm_flat.specs.FlatState.{FileState, Flat, added, file_by_number, in_use, is_free, was_made}
-use Rattle.gm_flat.specs.Histories.{Bracket, Call, bracket, call, done, with_page}
+use Rattle.gm_flat.specs.FlatState.{FileState, Flat, file_by_number, in_use, was_made}
+use Rattle.gm_flat.specs.Histories.{Call, call, done, with_page}
 use Rattle.gm_flat.specs.Replay.{adds, flat, states}
 use Rattle.gm_flat.specs.RightCalls.{AllocateEnds, IsAnswer, IsPage, RightAnswer, RightPage}
-use Rattle.gm_flat.specs.RightLives.{AddsOne, HoldsBlock, IsFirstOpen, IsLowestFrame, PageAdds, RightPageAdds, TakesBlock, plan_of}
+use Rattle.gm_flat.specs.RightLives.{HoldsBlock, IsFirstOpen, IsLowestFrame, PageAdds, RightPageAdds, plan_of}
 use Rattle.gm_flat.specs.RightOrder.{is_first_row}
-use Rattle.gm_flat.specs.Slots.{slot_over}
 use Rattle.gm_flat.specs.declared.effect.Reply.{Reply}
 use Rattle.gm_flat.specs.declared.entry.Entry.{Entry}
 use Rattle.gm_flat.specs.declared.entry.What.TheVariants.{Answer, Judge, Page}
@@ -36,11 +34,11 @@ use Rattle.gm_machine.proofs.One.{one_by, quiet_one}
 use Rattle.gm_machine.proofs.Quiet.{buffers_more, seats_more, sizes_kept}
 use Rattle.gm_machine.proofs.Stored.{below, file_facts, frame_taken, page_added, state_of, with_folio}
 use Rattle.gm_machine.proofs.Waits.{judged_same}
-use Rattle.gm_machine.specs.Kept.{file_at, no_file, with_page as file_with_page}
+use Rattle.gm_machine.specs.Kept.{file_at, no_file}
 use Rattle.gm_machine.specs.Settled.{MayCall, Settled, Turned}
 use Rattle.gm_machine.specs.Stands.{Sizes, Stands}
 use Rattle.gm_machine.specs.Ties.{AllocatesIn, FilesAre, FramesAre, Pages, PagingIs, pages_of}
-use Rattle.gm_machine.specs.Views.{View, orders_of}
+use Rattle.gm_machine.specs.Views.{View}
 use Rattle.gm_machine.specs.declared.paging.Paging.{Paging}
 
 -- pages that a caller adds stand for a call in progress, and change nothing else
@@ -258,8 +256,7 @@ page_turn w t c x index folio y q s lt h open_at inside room k pages cached_is =
     let adds_right : PageAdds w.setup.frames (plan_of w.setup g.call_is w.past) (Some (one_page x.file index folio)) (flat w.past) =
     subst (λ (p : Plan). PageAdds w.setup.frames p (Some (one_page x.file index folio)) (flat w.past)) (sym g.judged)
     (refl, k.serial ∙ st.stores.frames_are.next_is, λ i first. inr (record { pages = refl; index_is = same_first (pages_of x) index i (flat w.past) open_at first; frame = lowest_frame w.frames q folio w.setup.frames (flat w.past) st.stores.frames_are k }, λ block. no_block _ (file_by_number x.file (flat w.past).files) x.file (file_at w.files x.file).pages f.state block.in_file)) in
-    one_by w (paged w t c x index folio y q) t (Caller c) (Page index folio 1) false s lt st2 refl refl
-    (
+    one_by w (paged w t c x index folio y q) t (Caller c) (Page index folio 1) false s lt st2 refl refl (
       s.calls.no_bracket c,
       subst (λ (o : Option Call). RightPage w.setup index o w.past) (sym g.in_progress) page,
       subst (λ (o : Option Addition). RightPageAdds w.setup (call c w.past) o w.past) (sym adds_one) (subst (λ (o : Option Call). RightPageAdds w.setup o (Some (one_page x.file index folio)) w.past) (sym g.in_progress) adds_right),
@@ -267,10 +264,10 @@ page_turn w t c x index folio y q s lt h open_at inside room k pages cached_is =
     refl refl (quiet_freed (e ∷ w.past) (quiet_one t (Caller c) (Page index folio 1) w.past s.new_turn refl))
     (calls_after w.setup c w.pagings w.pagings w.past (e ∷ w.past) s.calls lt
     (λ d.
-        let o : call c (e ∷ w.past) ≡ Some (record g.call_is { pages = suc g.call_is.pages }) = cond-true (eqb c c) (with_page (call c w.past)) (call c w.past) (self c) ∙ ap with_page g.in_progress in
-        let here : get_or w.pagings c d ≡ Some x = get_or_any w.pagings c d None (subst (λ (n : ℕ). c < n) (sym st.sizes.paging_count) lt) ∙ h in
-        let p = pages_same w.setup (flat w.past) (flat (e ∷ w.past)) (ap (λ (v : Flat). v.files) after) x g.call_is g.pages in
-        rw (here, o) (record { planned = p.planned; unmade = p.unmade; allocates = p.allocates }))
+    let o : call c (e ∷ w.past) ≡ Some (record g.call_is { pages = suc g.call_is.pages }) = cond-true (eqb c c) (with_page (call c w.past)) (call c w.past) (self c) ∙ ap with_page g.in_progress in
+    let here : get_or w.pagings c d ≡ Some x = get_or_any w.pagings c d None (subst (λ (n : ℕ). c < n) (sym st.sizes.paging_count) lt) ∙ h in
+    let p = pages_same w.setup (flat w.past) (flat (e ∷ w.past)) (ap (λ (v : Flat). v.files) after) x g.call_is g.pages in
+    rw (here, o) (record { planned = p.planned; unmade = p.unmade; allocates = p.allocates }))
     (λ u d lu ne. refl)
     (λ u ne. cond-false (eqb c u) (with_page (call u w.past)) (call u w.past) ne)
     (pages_same w.setup (flat w.past) (flat (e ∷ w.past)) (ap (λ (v : Flat). v.files) after)) (λ u. refl))

@@ -1,5 +1,5 @@
 -- Calls in progress, after a turn of one caller.
-use Rattle.std.proofs.Common.{◌≡◌, ℕ, ◌<◌, ◌≤◌, List, false, true, get_or, Option, Some, None, arith, subst, sym, ◌∙◌, ap, refl, eqb, inl, inr}
+use Rattle.std.proofs.Common.{◌≡◌, ℕ, ◌<◌, ◌≤◌, List, false, get_or, Option, Some, None, arith, subst, sym, ◌∙◌, refl, eqb, inl, inr}
 use Rattle.std.proofs.lemmas.Bool.{cases_Bool, eqb-true}
 use Rattle.std.proofs.lemmas.Bool.Decides.{nat_tests}
 use Rattle.gm_base.specs.declared.calls.Ioctl.{Ioctl}
@@ -7,7 +7,7 @@ use Rattle.gm_base.specs.declared.calls.Ioctl.TheVariants.{Allocate}
 use Rattle.gm_base.specs.declared.values.Setup.{Setup}
 use Rattle.gm_flat.specs.Calls.{plan}
 use Rattle.gm_flat.specs.FlatState.{Flat}
-use Rattle.gm_flat.specs.Histories.{Bracket, Call, bracket, call}
+use Rattle.gm_flat.specs.Histories.{Call, bracket, call}
 use Rattle.gm_flat.specs.Replay.{flat}
 use Rattle.gm_flat.specs.declared.entry.Entry.{Entry}
 use Rattle.gm_machine.specs.Settled.{CallsAre}

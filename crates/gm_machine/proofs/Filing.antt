@@ -1,6 +1,5 @@
 -- A file that is made: its call is judged and answered in one turn.
-use Rattle.std.proofs.Common.{◌≡◌, ℕ, ◌*◌, ◌+◌, ◌++◌, ltb, ◌<◌, ◌≤◌, ◌&&◌, List, [], ◌∷◌, Bool, true, false, not, length, get_or, set, suc, Option, Some, None, arith, subst, sym, ◌∙◌, ap, refl, cond, eqb}
-use Rattle.std.proofs.lemmas.Bool.{both_ways}
+use Rattle.std.proofs.Common.{◌≡◌, ℕ, ◌*◌, ◌+◌, ◌++◌, ltb, ◌<◌, ◌≤◌, List, [], ◌∷◌, Bool, true, false, not, length, get_or, set, Option, Some, None, arith, subst, sym, ◌∙◌, ap, refl, cond, eqb}
 use Rattle.std.proofs.lemmas.Bool.Decides.{nat_tests}
 use Rattle.gm_base.specs.declared.calls.Ioctl.{Ioctl}
 use Rattle.gm_base.specs.declared.calls.Ioctl.TheVariants.{Allocate}
@@ -9,7 +8,7 @@ use Rattle.gm_base.specs.declared.values.Actor.TheVariants.{Caller}
 use Rattle.gm_base.specs.declared.values.Errno.TheVariants.{BadF, Inval}
 use Rattle.gm_base.specs.declared.values.Setup.{Setup}
 use Rattle.gm_flat.specs.Calls.{PagePlan, Paged, Plan, Refused, Short, bad_range, file_pages, page_of, plan}
-use Rattle.gm_flat.specs.FlatState.{FileState, Flat, in_use}
+use Rattle.gm_flat.specs.FlatState.{Flat, in_use}
 use Rattle.gm_flat.specs.Histories.{Call, call, done}
 use Rattle.gm_flat.specs.Replay.{flat}
 use Rattle.gm_flat.specs.RightCalls.{IsAnswer, IsEffect, RightAnswer, RightChange}
@@ -33,7 +32,7 @@ use Rattle.gm_machine.specs.Kept.{new_file}
 use Rattle.gm_machine.specs.Settled.{MayCall, Settled, Turned}
 use Rattle.gm_machine.specs.Stands.{Stands}
 use Rattle.gm_machine.specs.Ties.{AllocatesIn, FilesAre, Pages}
-use Rattle.gm_machine.specs.Views.{View, orders_of}
+use Rattle.gm_machine.specs.Views.{View}
 use Rattle.gm_machine.specs.declared.paging.Paging.{Paging}
 
 -- the file of an allocation that goes on is in use

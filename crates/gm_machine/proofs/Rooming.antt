@@ -1,23 +1,22 @@
 -- More room in some parts.
-use Rattle.std.proofs.Common.{◌≡◌, ℕ, ◌+◌, ◌-◌, ◌^◌, ◌<◌, ◌≤◌, List, [], ◌∷◌, Bool, true, false, length, get_or, set, zero, suc, Option, Some, None, IfSome, arith, subst, sym, ◌∙◌, ap, refl, cond, eqb, inl, inr, ◌⊎◌}
+use Rattle.std.proofs.Common.{◌≡◌, ℕ, ◌<◌, ◌≤◌, List, [], ◌∷◌, Bool, true, false, length, get_or, set, zero, suc, Option, Some, None, IfSome, arith, subst, sym, ◌∙◌, ap, refl, eqb, inl, inr, ◌⊎◌}
 use Rattle.std.proofs.lemmas.Bool.{both_ways, cases_Bool, cases_lt, eqb-true}
-use Rattle.std.proofs.lemmas.List.{get_or-set_other, get_or-set_same, length-set}
+use Rattle.std.proofs.lemmas.List.{get_or-set_other, length-set}
 use Rattle.gm_base.specs.declared.values.Actor.{Actor}
 use Rattle.gm_base.specs.declared.values.Actor.TheVariants.{Caller, Vcpu}
 use Rattle.gm_file.specs.Views.{FileView}
-use Rattle.gm_flat.specs.FlatState.{FileState, Flat}
+use Rattle.gm_flat.specs.FlatState.{Flat}
 use Rattle.gm_flat.specs.Replay.{flat}
 use Rattle.gm_mmu.specs.Served.{Serving}
 use Rattle.gm_machine.proofs.Lists.{get_or_any, set_each}
-use Rattle.gm_machine.proofs.Quiet.{sizes_kept}
 use Rattle.gm_machine.proofs.Stored.{state_of}
 use Rattle.gm_machine.specs.Flags.{Flags, flag_of, with_flag}
 use Rattle.gm_machine.specs.Kept.{KeptFiles, KeptLog, file_at, no_file}
-use Rattle.gm_machine.specs.Settled.{IsRoomier, IsRoomy, IsRoomyFor, PageRoom, Settled}
+use Rattle.gm_machine.specs.Settled.{IsRoomier, PageRoom, Settled}
 use Rattle.gm_machine.specs.Sparer.{FilesSparer, IsSparer}
 use Rattle.gm_machine.specs.Stands.{Stands}
 use Rattle.gm_machine.specs.Ties.{FileIs, FilesAre}
-use Rattle.gm_machine.specs.Views.{View, orders_of, values_of}
+use Rattle.gm_machine.specs.Views.{View, values_of}
 use Rattle.gm_machine.specs.declared.paging.Paging.{Paging}
 use Rattle.gm_machine.specs.declared.parts.Parts.{Parts}
 

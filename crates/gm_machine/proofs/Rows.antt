@@ -1,15 +1,14 @@
 -- What a call comes to: the rows of an allocation, and the pages that it has.
-use Rattle.std.proofs.Common.{◌≡◌, ℕ, ◌*◌, ◌+◌, ◌/◌, ◌%◌, ◌<◌, ◌≤◌, ◌&&◌, ◌||◌, ltb, leb, Bool, true, false, not, Option, Some, None, IfNone, IfSome, IsSome, length, arith, subst, sym, ◌∙◌, ap, refl, cond, eqb}
+use Rattle.std.proofs.Common.{◌≡◌, ℕ, ◌*◌, ◌+◌, ◌/◌, ◌%◌, ◌<◌, ◌≤◌, ◌&&◌, ◌||◌, ltb, leb, Bool, true, false, not, Option, Some, None, IfNone, IfSome, IsSome, length, arith, subst, sym, ◌∙◌, refl, cond, eqb}
 use Rattle.std.proofs.lemmas.Bool.{both_ways}
 use Rattle.std.proofs.lemmas.Bool.Decides.{nat_tests}
 use Rattle.gm_base.specs.declared.calls.Ioctl.{Ioctl}
 use Rattle.gm_base.specs.declared.calls.Ioctl.TheVariants.{Allocate, Create}
-use Rattle.gm_base.specs.declared.numbers.TheConstants.{PAGE_BYTES}
 use Rattle.gm_base.specs.declared.values.Errno.TheVariants.{BadF, Inval}
 use Rattle.gm_base.specs.declared.values.Folio.{Folio}
 use Rattle.gm_base.specs.declared.values.Setup.{Setup}
-use Rattle.gm_flat.specs.Calls.{OFFSET_LIMIT, PagePlan, Paged, Plan, Refused, bad_range, file_pages, is_paged, page_of, plan}
-use Rattle.gm_flat.specs.FlatState.{Flat, cached, in_use}
+use Rattle.gm_flat.specs.Calls.{OFFSET_LIMIT, PagePlan, Paged, Refused, bad_range, file_pages, page_of, plan}
+use Rattle.gm_flat.specs.FlatState.{Flat, in_use}
 use Rattle.gm_flat.specs.Replay.{flat}
 use Rattle.gm_flat.specs.RightCalls.{AllCached}
 use Rattle.gm_flat.specs.RightLives.{IsFirstOpen}
@@ -21,7 +20,6 @@ use Rattle.gm_radix.specs.Entries.{IsFirstGap, lookup}
 use Rattle.gm_machine.proofs.Allocating.{Going}
 use Rattle.gm_machine.proofs.Stored.{file_facts, unused}
 use Rattle.gm_machine.specs.Kept.{file_at, no_file}
-use Rattle.gm_machine.specs.Settled.{Settled}
 use Rattle.gm_machine.specs.Stands.{Stands}
 use Rattle.gm_machine.specs.Ties.{AllocatesIn, pages_of}
 use Rattle.gm_machine.specs.Views.{View}

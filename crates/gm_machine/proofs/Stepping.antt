@@ -1,22 +1,18 @@
 -- Steps of a machine: what is seen of them, and the room that they use.
-use Rattle.std.proofs.Common.{◌≡◌, ℕ, ◌+◌, Bool, true, false, length, Option, subst, sym, ◌∙◌, ap, refl, inl, inr}
+use Rattle.std.proofs.Common.{◌≡◌, ℕ, ◌+◌, Bool, true, false, length, subst, sym, ◌∙◌, ap, refl, inl, inr}
 use Rattle.std.proofs.lemmas.Bool.{both_ways}
 use Rattle.std.proofs.lemmas.List.{length-replicate, length-set}
 use Rattle.gm_base.specs.Scripts.{Orders}
 use Rattle.gm_base.specs.declared.values.Actor.{Actor}
 use Rattle.gm_base.specs.declared.values.Actor.TheVariants.{Vcpu, Caller}
 use Rattle.gm_base.specs.declared.values.Setup.{Setup}
-use Rattle.gm_flat.specs.Histories.{Bracket}
-use Rattle.gm_flat.specs.RightOrder.{IsBlocked, WaitsToAck}
 use Rattle.gm_laws.proofs.RuledIsRight.{right}
 use Rattle.gm_machine.proofs.Gone.{flag_of-no_flags}
 use Rattle.gm_machine.proofs.Rooming.{flag_either}
-use Rattle.gm_machine.proofs.Quiet.{sizes_kept}
 use Rattle.gm_machine.specs.Flags.{Flags, no_flags, with_flag}
 use Rattle.gm_machine.specs.Settled.{IsRoomier, IsRoomyFor, Kicked, RoomIsKept, Settled, Taken, Turned}
-use Rattle.gm_machine.specs.Stands.{Stands}
 use Rattle.gm_machine.specs.Steps.{Goes, Kicks, Moves, Seen}
-use Rattle.gm_machine.specs.Views.{View, orders_of, values_of}
+use Rattle.gm_machine.specs.Views.{orders_of, values_of}
 use Rattle.gm_machine.specs.declared.parts.Parts.{Parts}
 
 -- a turn uses up all room

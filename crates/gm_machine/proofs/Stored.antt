@@ -1,17 +1,17 @@
 -- Files and frames of a machine, after a file is made or a page is added.
-use Rattle.std.proofs.Common.{◌≡◌, ℕ, ◌+◌, ◌-◌, ◌++◌, ◌<◌, ◌≤◌, ◌&&◌, List, [], ◌∷◌, Bool, true, false, not, length, get_or, set, zero, suc, Option, Some, None, IfSome, arith, subst, sym, ◌∙◌, ap, refl, cond, eqb, leb, ltb, inl, inr}
+use Rattle.std.proofs.Common.{◌≡◌, ℕ, ◌+◌, ◌++◌, ◌<◌, ◌≤◌, ◌&&◌, List, [], ◌∷◌, Bool, true, false, length, get_or, set, zero, suc, Option, Some, None, arith, subst, sym, ◌∙◌, ap, refl, cond, eqb, ltb, inl, inr}
 use Rattle.std.proofs.lemmas.Bool.{both_ways, cases_Bool, cases_lt, eqb-true, eq-eqb}
 use Rattle.std.proofs.lemmas.Bool.Decides.{nat_tests}
 use Rattle.std.proofs.lemmas.List.{length-set}
 use Rattle.gm_base.specs.declared.values.Folio.{Folio}
 use Rattle.gm_file.specs.Views.{FileView}
 use Rattle.gm_flat.specs.Calls.{file_pages}
-use Rattle.gm_flat.specs.FlatState.{FileState, Flat, FolioState, Triple, added, cached, file_by_number, in_use, is_free, was_made}
-use Rattle.gm_pool.specs.Pools.{Frames, fresh, is_free as frame_is_free, use_in, with_use}
+use Rattle.gm_flat.specs.FlatState.{FileState, Flat, added, cached, file_by_number, in_use, was_made}
+use Rattle.gm_pool.specs.Pools.{Frames, fresh, use_in}
 use Rattle.gm_pool.specs.declared.uses.Use.{Use}
-use Rattle.gm_radix.specs.Entries.{lookup, put}
+use Rattle.gm_radix.specs.Entries.{lookup}
 use Rattle.gm_machine.proofs.Lists.{get_or_any, self, set_each}
-use Rattle.gm_machine.specs.Kept.{file_at, new_file, no_file, with_page}
+use Rattle.gm_machine.specs.Kept.{file_at, new_file, no_file}
 use Rattle.gm_machine.specs.Ties.{FileIs, FilesAre, FramesAre}
 
 abbrev pub state_of : ℕ → ℕ → FileState

@@ -1,13 +1,11 @@
 -- Which caller holds a lock that a call needs: the one that adds pages to its file.
-use Rattle.std.proofs.Common.{◌≡◌, ℕ, ◌<◌, ◌≤◌, ◌&&◌, ◌||◌, List, [], ◌∷◌, Bool, true, false, not, length, get_or, suc, zero, Option, Some, None, IfNone, IfSome, arith, subst, sym, ◌∙◌, ap, refl, cond, eqb, inl, inr, ◌⊎◌}
-use Rattle.std.proofs.lemmas.Bool.{and_from, and_parts, both_ways, cases_Bool, cases_lt, eq-eqb, eqb-false, eqb-true, or_left}
+use Rattle.std.proofs.Common.{◌≡◌, ℕ, ◌<◌, ◌&&◌, ◌||◌, List, [], ◌∷◌, Bool, true, false, not, length, get_or, suc, zero, Option, Some, None, IfNone, IfSome, arith, subst, sym, ◌∙◌, ap, refl, cond, eqb, inl, inr}
+use Rattle.std.proofs.lemmas.Bool.{and_from, and_parts, both_ways, cases_Bool, cases_lt, eq-eqb, eqb-true, or_left}
 use Rattle.std.proofs.lemmas.Bool.Decides.{nat_tests}
 use Rattle.gm_base.specs.declared.calls.Ioctl.{Ioctl}
 use Rattle.gm_base.specs.declared.calls.Ioctl.TheVariants.{Allocate, Attrs, Close, Create, Peek, Poke, Populate, Punch, Region2}
-use Rattle.gm_base.specs.declared.calls.Region.{Region}
 use Rattle.gm_base.specs.declared.script.Command.TheVariants.{Call as CallCommand}
 use Rattle.gm_base.specs.declared.values.Actor.TheVariants.{Caller}
-use Rattle.gm_base.specs.declared.values.Setup.{Setup}
 use Rattle.gm_flat.specs.Calls.{Paged, page_of, plan, wants_file}
 use Rattle.gm_flat.specs.FlatState.{Flat, in_use}
 use Rattle.gm_flat.specs.Histories.{Bracket, Call, bracket, call}
@@ -17,7 +15,6 @@ use Rattle.gm_flat.specs.Replay.{flat, flat_at}
 use Rattle.gm_flat.specs.RightLives.{plan_of}
 use Rattle.gm_flat.specs.RightLook.{file_of}
 use Rattle.gm_flat.specs.Slots.{is_file, slot_by_id, slot_over}
-use Rattle.gm_flat.specs.declared.entry.Entry.{Entry}
 use Rattle.gm_flat.specs.declared.views.SlotView.{SlotView}
 use Rattle.gm_laws.proofs.RowsSeen.{sees_row-now}
 use Rattle.gm_laws.proofs.RuledIsRight.{right}

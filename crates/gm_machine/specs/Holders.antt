@@ -1,5 +1,5 @@
 -- Which callers' calls in progress add pages to a file.
-use Rattle.std.specs.Prelude.{ℕ, List, Bool, true, false, not, ◌&&◌, nat_eq, None, Some, slice_index_or, if◌then◌else◌}
+use Rattle.std.specs.Prelude.{ℕ, List, Bool, false, not, ◌&&◌, nat_eq, None, Some, slice_index_or, if◌then◌else◌}
 use Rattle.std.specs.declared.option.Option.{Option}
 use Rattle.gm_base.specs.declared.calls.Ioctl.{Ioctl}
 use Rattle.gm_base.specs.declared.calls.Ioctl.TheVariants.{Create, Region2, Attrs, Punch, Allocate, Close, Populate, Poke, Peek}

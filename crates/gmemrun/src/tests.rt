@@ -10,8 +10,11 @@ const ONE_READ: &[u8] =
 const SECOND_READ_AND_A_HOLE: &[u8] =
     b"machine frames=4 user=4 vcpus=1 callers=1 huge=off\nc0 region 0 0 0 16384 0 0 0\nv0 read shared 0\nv0 read shared 0\nv0 read shared 16384\nturn c0\nturn v0 14\n";
 
-const A_WRITE_NOT_BUILT: &[u8] =
+const A_WRITE_WITHOUT_TURNS: &[u8] =
     b"machine frames=4 user=4 vcpus=1 callers=1 huge=off\nv0 write shared 0 1\n";
+
+const A_PRIVATE_WRITE: &[u8] =
+    b"machine frames=4 user=4 vcpus=1 callers=1 huge=off\nv0 write private 0 1\n";
 
 const HEAD: &[u8] = b"gmem-history 1\nmachine frames=4 user=4 vcpus=1 callers=1 huge=off\n";
 
@@ -24,7 +27,7 @@ const SECOND_READ: &[u8] =
 // The rows over ends that never fail: the script, the status, and the pieces of the text.
 #[test]
 fn rows_over_sure_ends(rt: HostRuntime) -> Result<(), Fail> {
-    let rows: [(&[u8], Status, [&[u8]; 4]); 4] = [
+    let rows: [(&[u8], Status, [&[u8]; 4]); 5] = [
         (
             SMALLEST,
             Status::Ok,
@@ -41,7 +44,12 @@ fn rows_over_sure_ends(rt: HostRuntime) -> Result<(), Fail> {
             [HEAD, FIRST_READ, SECOND_READ, b"end turns=15 entries=17\n"],
         ),
         (
-            A_WRITE_NOT_BUILT,
+            A_WRITE_WITHOUT_TURNS,
+            Status::Ok,
+            [HEAD, b"", b"", b"end turns=0 entries=0\n"],
+        ),
+        (
+            A_PRIVATE_WRITE,
             Status::BadScript,
             [b"bad line=2 cause=unbuilt\n", b"", b"", b""],
         ),

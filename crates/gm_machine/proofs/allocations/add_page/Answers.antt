@@ -1,4 +1,4 @@
-use Rattle.std.proofs.Common.{◌∙◌, ap, arith, refl}
+use Rattle.std.proofs.Common.{◌∙◌, arith, refl}
 use Rattle.gm_machine.proofs.Allocating.{Took, going, page_turn, took_uses}
 use Rattle.gm_file.proofs.Caching.{lookup-put}
 use Rattle.gm_machine.proofs.Rows.{pages_within}

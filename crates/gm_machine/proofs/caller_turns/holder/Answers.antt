@@ -1,4 +1,4 @@
-use Rattle.std.proofs.Common.{◌∙◌, ◌≡◌, ◌<◌, Option, Some, ap, arith, length, subst, sym}
+use Rattle.std.proofs.Common.{◌∙◌, ◌≡◌, Some, arith, sym}
 use Rattle.gm_machine.proofs.Waits.{may_free, may_none, waits_some}
 use Rattle.gm_machine.specs.Holders.{locked_file}
 use Rattle.gm_machine.specs.Views.{values_of}

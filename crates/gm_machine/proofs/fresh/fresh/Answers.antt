@@ -1,7 +1,6 @@
 use Rattle.std.proofs.Common.{◌∙◌, ap}
 use Rattle.gm_machine.proofs.Opening.{opens_by}
 use Rattle.gm_machine.specs.Kept.{KeptFiles, KeptLog}
-use Rattle.gm_slots.specs.Changes.{SlotList}
 use Rattle.gm_machine.proofs.fresh.fresh.Goals as goal
 
 pub returns-clause-settled : goal.returns-clause-settled

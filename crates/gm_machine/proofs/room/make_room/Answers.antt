@@ -1,4 +1,4 @@
-use Rattle.std.proofs.Common.{ap, arith, subst, sym}
+use Rattle.std.proofs.Common.{arith, subst, sym}
 use Rattle.gm_machine.proofs.Rooming.{roomier, same_files}
 use Rattle.gm_machine.specs.Settled.{IsRoomier}
 use Rattle.gm_machine.proofs.room.make_room.Goals as goal

@@ -1,4 +1,4 @@
-use Rattle.std.proofs.Common.{◌∙◌, ◌≡◌, ◌<◌, ap, arith, length, set, subst, sym}
+use Rattle.std.proofs.Common.{◌∙◌, ◌≡◌, ◌<◌, ap, length, set, subst, sym}
 use Rattle.gm_file.specs.Views.{FileView}
 use Rattle.gm_machine.proofs.Lists.{get_or_any}
 use Rattle.gm_machine.proofs.Rooming.{sparer_file}

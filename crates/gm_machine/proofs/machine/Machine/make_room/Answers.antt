@@ -9,8 +9,7 @@ invariant_of-self c =
 
 pub invariant_of-self-2 : goal.invariant_of-self-2
 invariant_of-self-2 c =
-    let r = c.make_room.ensures.roomier in
-    (
+    let r = c.make_room.ensures.roomier in (
       r.settled (c.self.inside.turns + 1) c.self.invariant.0,
       rw c.set.ensures.flags (room_set c.make_room.new.parts c.self.inside.room c.args.actor (room_roomier c.self.inside.parts c.make_room.new.parts c.self.inside.room r c.self.invariant.1) c.in_ok-make_room.ensures.ok),
     )
