@@ -98,7 +98,11 @@ fn the_ends_of_the_frames(rt: HostRuntime) -> Result<(), Fail> {
         assert_eq!(rt; pool.take_one().map(|folio| folio.frame), one, "{frames}");
         assert_eq!(rt; pool.serial(frames), None, "{frames}");
         let mut whole = Pool::new(rt.alloc(), frames).ok().ok_or("memory")?;
-        assert_eq!(rt; whole.take_block().map(|folio| folio.frame), block, "{frames}");
+        assert_eq!(rt;
+            whole.take_block().map(|folio| folio.frame),
+            block,
+            "{frames}"
+        );
     }
     Ok(())
 }
@@ -115,7 +119,11 @@ fn the_last_frames_are_given(rt: HostRuntime) -> Result<(), Fail> {
         let mut pool = Pool::new(rt.alloc(), frames).ok().ok_or("memory")?;
         let first = pool.take_block().ok_or("a block")?;
         assert_eq!(rt; first.frame, 0, "{frames}");
-        assert_eq!(rt; pool.take_block().map(|folio| folio.frame), second, "{frames}");
+        assert_eq!(rt;
+            pool.take_block().map(|folio| folio.frame),
+            second,
+            "{frames}"
+        );
         if second.is_none() {
             let mut rest = Pool::new(rt.alloc(), frames).ok().ok_or("memory")?;
             let block = rest.take_block().ok_or("a block")?;
