@@ -15,9 +15,6 @@ fn answers_cross_threads() {
 const NO_TURNS: &[u8] =
     b"machine frames=4 user=4 vcpus=1 callers=1 huge=off\nc0 region 0 0 0 16384 0 0 0\nv0 read shared 8\n";
 
-const TWO_ALLOCATIONS: &[u8] =
-    b"machine frames=2 user=4 vcpus=1 callers=2 huge=off\nc0 create 12288 0\nc0 allocate 0 0 12288\nc1 allocate 0 0 4096\n";
-
 /// Makes room for a turn of the actor, takes the turn, and answers what it came to.
 fn turn(machine: &mut Machine, actor: Actor) -> Result<Outcome, Fail> {
     let setup = machine.setup();
@@ -57,32 +54,6 @@ fn a_call_and_a_read(rt: HostRuntime) -> Result<(), Fail> {
         assert_eq!(rt; machine.history().len(), entries);
     }
     assert_eq!(rt; machine.turns(), 11);
-    Ok(())
-}
-
-#[test]
-fn a_call_waits_for_its_file(rt: HostRuntime) -> Result<(), Fail> {
-    let script = read_script(rt.alloc(), TWO_ALLOCATIONS)
-        .ok()
-        .ok_or("a script")?;
-    let mut machine = Machine::new(rt.alloc(), &script).ok().ok_or("memory")?;
-    let first = Actor::Caller(0);
-    let second = Actor::Caller(1);
-    for (actor, outcome, entries) in [
-        (first, Outcome::Moved, 3),
-        (first, Outcome::Moved, 4),
-        (first, Outcome::Moved, 5),
-        (second, Outcome::Waits(Blocker::Lock(0)), 5),
-        (first, Outcome::Moved, 6),
-        (first, Outcome::Moved, 7),
-        (second, Outcome::Moved, 8),
-        (second, Outcome::Moved, 9),
-        (second, Outcome::Moved, 10),
-        (second, Outcome::Done, 10),
-    ] {
-        assert_eq!(rt; turn(&mut machine, actor)?, outcome);
-        assert_eq!(rt; machine.history().len(), entries);
-    }
     Ok(())
 }
 
