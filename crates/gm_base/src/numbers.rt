@@ -40,7 +40,7 @@ pub const BLOCK: u64 = 1;
 pub const MOST_SCRIPT_BYTES: usize = 16_777_216;
 
 /// The most vCPUs of a machine. It has at least one.
-pub const MOST_VCPUS: u32 = 16;
+pub const MOST_VCPUS: u32 = 64;
 
 /// The most callers of a machine.
 pub const MOST_CALLERS: u32 = 16;
@@ -58,10 +58,10 @@ pub const MOST_COMMANDS: usize = 65_536;
 pub const MOST_TURNS: usize = 262_144;
 
 /// A slot's id is below this.
-pub const SLOT_IDS: u32 = 512;
+pub const SLOT_IDS: u32 = 4096;
 
 /// The fills that a vCPU's buffer keeps.
-pub const BUFFER_FILLS: usize = 64;
+pub const BUFFER_FILLS: usize = 256;
 
 /// Serials, requests, sequences and generations stay below this, 2^62.
 pub const COUNTER_LIMIT: u64 = 4_611_686_018_427_387_904;

@@ -6,12 +6,12 @@ use Rattle.gm_base.specs.declared.values.Kind.{Kind}
 use Rattle.gm_base.specs.declared.values.Kind.TheVariants.{Shared}
 use Rattle.gm_flat.specs.declared.effect.Backing.TheVariants.{User}
 use Rattle.gm_flat.specs.Attribute.{attr_of}
-use Rattle.gm_flat.specs.NamedPage.{Named, named, named_by, user_named}
+use Rattle.gm_flat.specs.NamedPage.{Named, named, named_by, unmarked, user_named}
 use Rattle.gm_flat.specs.declared.effect.Effect.{Effect}
-use Rattle.gm_flat.specs.declared.effect.Effect.TheVariants.{Slot, NoSlot, Move, Shut}
+use Rattle.gm_flat.specs.declared.effect.Effect.TheVariants.{Slot, Mark, NoSlot, Move, Shut}
 use Rattle.gm_flat.specs.declared.entry.Entry.{Entry}
 use Rattle.gm_flat.specs.declared.views.SlotView.{SlotView}
-use Rattle.gm_flat.specs.Effects.{U64_LIMIT, dropped, moved, shut_files, shut_slots, slot_fits, without_file}
+use Rattle.gm_flat.specs.Effects.{U64_LIMIT, dropped, marked, moved, shut_files, shut_slots, slot_fits, without_file}
 use Rattle.gm_flat.specs.FlatState.{Flat, has_flag, was_made}
 use Rattle.gm_flat.specs.Replay.{states, flat}
 use Rattle.gm_flat.specs.Replayed.{AllFit, applied, change_in, within}
@@ -26,13 +26,21 @@ dropped_fit : (id : ℕ) (slots : List SlotView) → AllFit slots → AllFit (dr
 dropped_fit id [] h = tt
 dropped_fit id (s ∷ slots) h = dropped_step (eqb s.id id) s slots (dropped id slots) h.0 h.1 (dropped_fit id slots h.1)
 
-moved_step : (b : Bool) (base : ℕ) (s : SlotView) (slots rest : List SlotView) → slot_fits s ≡ true → AllFit slots → AllFit rest → AllFit (cond b (record s { base = base } ∷ slots) (s ∷ rest))
+moved_step : (b : Bool) (base : ℕ) (s : SlotView) (slots rest : List SlotView) → slot_fits s ≡ true → AllFit slots → AllFit rest → AllFit (cond b (record s { base = base; invalid = false } ∷ slots) (s ∷ rest))
 moved_step true base s slots rest e h k = (e, h)
 moved_step false base s slots rest e h k = (e, k)
 
 moved_fit : (id base : ℕ) (slots : List SlotView) → AllFit slots → AllFit (moved id base slots)
 moved_fit id base [] h = tt
 moved_fit id base (s ∷ slots) h = moved_step (eqb s.id id) base s slots (moved id base slots) h.0 h.1 (moved_fit id base slots h.1)
+
+marked_step : (b : Bool) (s : SlotView) (slots rest : List SlotView) → slot_fits s ≡ true → AllFit slots → AllFit rest → AllFit (cond b (record s { invalid = true } ∷ slots) (s ∷ rest))
+marked_step true s slots rest e h k = (e, h)
+marked_step false s slots rest e h k = (e, k)
+
+marked_fit : (id : ℕ) (slots : List SlotView) → AllFit slots → AllFit (marked id slots)
+marked_fit id [] h = tt
+marked_fit id (s ∷ slots) h = marked_step (eqb s.id id) s slots (marked id slots) h.0 h.1 (marked_fit id slots h.1)
 
 shut_fit : (file : ℕ) (slots : List SlotView) → AllFit slots → AllFit (shut_slots file slots)
 shut_fit file [] h = tt
@@ -49,8 +57,9 @@ shut_step false x y h k = k
 applied_fit : (x : Option Effect) (f : Flat) → AllFit f.slots → AllFit (applied x f).slots
 applied_fit None f h = h
 applied_fit (Some (Slot slot base pages user flags file index)) f h =
-    let s : SlotView = record { id = slot; base = base; pages = pages; user = user; flags = flags; file = file; index = index } in
+    let s : SlotView = record { id = slot; base = base; pages = pages; user = user; flags = flags; file = file; index = index; invalid = false } in
     made_step (slot_fits s) s f refl h
+applied_fit (Some (Mark slot)) f h = marked_fit slot f.slots h
 applied_fit (Some (NoSlot slot)) f h = dropped_fit slot f.slots h
 applied_fit (Some (Move slot base)) f h = moved_fit slot base f.slots h
 applied_fit (Some (Shut file)) f h =
@@ -73,13 +82,31 @@ over_step true t s page rest over fits h e =
     subst (λ (x : SlotView). Over x page) same (record { fits = fits; over = over })
 over_step false t s page rest over fits h e = h e
 
-pub found_over : (slots : List SlotView) (page : ℕ) (s : SlotView) → AllFit slots → slot_over slots page ≡ Some s → Over s page
+found_over : (slots : List SlotView) (page : ℕ) (s : SlotView) → AllFit slots → slot_over slots page ≡ Some s → Over s page
 found_over [] page s h e = absurd (none s e)
   where
     none : (s : SlotView) → None ≡ Some s → ⊥
     none s e = cc
 found_over (t ∷ slots) page s h e =
     over_step (lies_over t page) t s page (slot_over slots page) refl h.0 (found_over slots page s h.1) e
+
+-- a slot that isn't marked is the one found
+unmarked_is : (o : Option SlotView) (s : SlotView) → unmarked o ≡ Some s → o ≡ Some s
+unmarked_is None s e = absurd (none s e)
+  where
+    none : (s : SlotView) → None ≡ Some s → ⊥
+    none s e = cc
+unmarked_is (Some t) s e = unmarked_by t.invalid t s e
+  where
+    unmarked_by : (b : Bool) (t s : SlotView) → cond b None (Some t) ≡ Some s → Some t ≡ Some s
+    unmarked_by true t s e = absurd (none s e)
+      where
+        none : (s : SlotView) → None ≡ Some s → ⊥
+        none s e = cc
+    unmarked_by false t s e = e
+
+pub found_unmarked : (slots : List SlotView) (page : ℕ) (s : SlotView) → AllFit slots → unmarked (slot_over slots page) ≡ Some s → Over s page
+found_unmarked slots page s h e = found_over slots page s h (unmarked_is (slot_over slots page) s e)
 
 pub over_low : (s : SlotView) (page : ℕ) → Over s page → s.base ≤ page
 over_low s page o = low s page o.over
@@ -103,10 +130,10 @@ over_index s page o e = absurd (apart (index_of s page) (sym (ap (λ (b : Bool).
     apart n e = cc
 
 -- what is named at a page whose attribute is shared
-pub named_shared : (f : Flat) (page n : ℕ) (s : SlotView) (read_only : Bool) → n ≡ page → attr_of n f.attrs ≡ Shared → slot_over f.slots n ≡ Some s → s.base ≤ n → read_only ≡ has_flag KVM_MEM_READONLY s.flags → named f page ≡ Some (record { kind = Shared; backing = User (s.user + (n - s.base)); writable = not read_only })
+pub named_shared : (f : Flat) (page n : ℕ) (s : SlotView) (read_only : Bool) → n ≡ page → attr_of n f.attrs ≡ Shared → unmarked (slot_over f.slots n) ≡ Some s → s.base ≤ n → read_only ≡ has_flag KVM_MEM_READONLY s.flags → named f page ≡ Some (record { kind = Shared; backing = User (s.user + (n - s.base)); writable = not read_only })
 named_shared f page n s read_only same shared found low is =
     ap (λ (p : ℕ). named f p) (sym same)
-    ∙ (ap (λ (k : Kind). named_by n f.cache k (slot_over f.slots n)) shared
+    ∙ (ap (λ (k : Kind). named_by n f.cache k (unmarked (slot_over f.slots n))) shared
     ∙ (ap (λ (o : Option SlotView). user_named n o) found
     ∙ (ap (λ (u : ℕ). plain u (has_flag KVM_MEM_READONLY s.flags)) (user s.user n s.base low)
     ∙ ap (λ (b : Bool). plain (s.user + (n - s.base)) b) (sym is))))

@@ -5,7 +5,7 @@ use Rattle.std.proofs.lemmas.List.{drop_more, take_more, append_assoc, append-ni
 use Rattle.std.proofs.lemmas.Bool.Decides.{nat_tests}
 use Rattle.gm_flat.specs.declared.views.SlotView.{SlotView}
 use Rattle.gm_flat.specs.FlatState.{FileState, was_made}
-use Rattle.gm_flat.specs.Effects.{dropped, moved, shut_slot, shut_slots, shut_files}
+use Rattle.gm_flat.specs.Effects.{dropped, marked, moved, shut_slot, shut_slots, shut_files}
 
 differ : (a b : ℕ) → a ≢ b → eqb a b ≡ false
 differ a b ne = grind (arith, nat_tests)
@@ -29,13 +29,14 @@ ended {X = X} xs at F e h =
     ap (λ (l : List X). take at xs ++ F l) (drop_all at xs h)
     ∙ (ap (λ (l : List X). take at xs ++ l) e ∙ (append-nil (take at xs) ∙ take_all at xs h))
 
--- what is kept before the first slot of an id, when a slot is dropped or moved
+-- what is kept before the first slot of an id, when a slot is dropped, marked or moved
 pub record Passed (slots : List SlotView) (at id : ℕ) : Type 0 where
   pub drops : dropped id slots ≡ take at slots ++ dropped id (drop at slots)
   pub moves : (base : ℕ) → moved id base slots ≡ take at slots ++ moved id base (drop at slots)
+  pub marks : marked id slots ≡ take at slots ++ marked id (drop at slots)
 
 pub passed_none : (slots : List SlotView) (id : ℕ) → Passed slots 0 id
-passed_none slots id = record { drops = refl; moves = λ base. refl }
+passed_none slots id = record { drops = refl; moves = λ base. refl; marks = refl }
 
 pub passed_more : (slots : List SlotView) (at id : ℕ) (d : SlotView) → Passed slots at id → at < length slots → (get_or slots at d).id ≢ id → Passed slots (at + 1) id
 passed_more slots at id d p h ne =
@@ -43,7 +44,8 @@ passed_more slots at id d p h ne =
     let rest : List SlotView = drop (at + 1) slots in
     record {
       drops = p.drops ∙ along slots at d (λ (l : List SlotView). dropped id l) h (ap (λ (b : Bool). cond b rest (s ∷ dropped id rest)) (differ s.id id ne));
-      moves = λ base. p.moves base ∙ along slots at d (λ (l : List SlotView). moved id base l) h (ap (λ (b : Bool). cond b (record s { base = base } ∷ rest) (s ∷ moved id base rest)) (differ s.id id ne));
+      moves = λ base. p.moves base ∙ along slots at d (λ (l : List SlotView). moved id base l) h (ap (λ (b : Bool). cond b (record s { base = base; invalid = false } ∷ rest) (s ∷ moved id base rest)) (differ s.id id ne));
+      marks = p.marks ∙ along slots at d (λ (l : List SlotView). marked id l) h (ap (λ (b : Bool). cond b (record s { invalid = true } ∷ rest) (s ∷ marked id rest)) (differ s.id id ne));
     }
 
 pub drop_found : (slots : List SlotView) (at id : ℕ) (d : SlotView) → Passed slots at id → at < length slots → (get_or slots at d).id ≡ id → remove slots at ≡ dropped id slots
@@ -53,20 +55,32 @@ drop_found slots at id d p h here =
     ∙ sym (p.drops ∙ (ap (λ (l : List SlotView). take at slots ++ dropped id l) (drop_more slots at d h)
     ∙ ap (λ (b : Bool). take at slots ++ cond b (drop (at + 1) slots) (s ∷ dropped id (drop (at + 1) slots))) (same s.id id here)))
 
-pub move_found : (slots : List SlotView) (at id base : ℕ) (d s : SlotView) → Passed slots at id → at < length slots → (get_or slots at d).id ≡ id → s ≡ get_or slots at s → set slots at (record s { base = base }) ≡ moved id base slots
+pub move_found : (slots : List SlotView) (at id base : ℕ) (d s : SlotView) → Passed slots at id → at < length slots → (get_or slots at d).id ≡ id → s ≡ get_or slots at s → set slots at (record s { base = base; invalid = false }) ≡ moved id base slots
 move_found slots at id base d s p h here is =
     let e : s ≡ get_or slots at d = is ∙ get_or_default slots at s d h in
-    set_split slots at (record s { base = base }) h
-    ∙ (ap (λ (n : ℕ). take at slots ++ record s { base = base } ∷ drop n slots) (suc_is at)
-    ∙ (ap (λ (x : SlotView). take at slots ++ record x { base = base } ∷ drop (at + 1) slots) e
+    set_split slots at (record s { base = base; invalid = false }) h
+    ∙ (ap (λ (n : ℕ). take at slots ++ record s { base = base; invalid = false } ∷ drop n slots) (suc_is at)
+    ∙ (ap (λ (x : SlotView). take at slots ++ record x { base = base; invalid = false } ∷ drop (at + 1) slots) e
     ∙ sym (p.moves base ∙ (ap (λ (l : List SlotView). take at slots ++ moved id base l) (drop_more slots at d h)
-    ∙ ap (λ (b : Bool). take at slots ++ cond b (record (get_or slots at d) { base = base } ∷ drop (at + 1) slots) (get_or slots at d ∷ moved id base (drop (at + 1) slots))) (same (get_or slots at d).id id here)))))
+    ∙ ap (λ (b : Bool). take at slots ++ cond b (record (get_or slots at d) { base = base; invalid = false } ∷ drop (at + 1) slots) (get_or slots at d ∷ moved id base (drop (at + 1) slots))) (same (get_or slots at d).id id here)))))
+
+pub mark_found : (slots : List SlotView) (at id : ℕ) (d s : SlotView) → Passed slots at id → at < length slots → (get_or slots at d).id ≡ id → s ≡ get_or slots at s → set slots at (record s { invalid = true }) ≡ marked id slots
+mark_found slots at id d s p h here is =
+    let e : s ≡ get_or slots at d = is ∙ get_or_default slots at s d h in
+    set_split slots at (record s { invalid = true }) h
+    ∙ (ap (λ (n : ℕ). take at slots ++ record s { invalid = true } ∷ drop n slots) (suc_is at)
+    ∙ (ap (λ (x : SlotView). take at slots ++ record x { invalid = true } ∷ drop (at + 1) slots) e
+    ∙ sym (p.marks ∙ (ap (λ (l : List SlotView). take at slots ++ marked id l) (drop_more slots at d h)
+    ∙ ap (λ (b : Bool). take at slots ++ cond b (record (get_or slots at d) { invalid = true } ∷ drop (at + 1) slots) (get_or slots at d ∷ marked id (drop (at + 1) slots))) (same (get_or slots at d).id id here)))))
 
 pub drops_ended : (slots : List SlotView) (at id : ℕ) → Passed slots at id → length slots ≤ at → dropped id slots ≡ slots
 drops_ended slots at id p h = p.drops ∙ ended slots at (λ (l : List SlotView). dropped id l) refl h
 
 pub moves_ended : (slots : List SlotView) (at id base : ℕ) → Passed slots at id → length slots ≤ at → moved id base slots ≡ slots
 moves_ended slots at id base p h = p.moves base ∙ ended slots at (λ (l : List SlotView). moved id base l) refl h
+
+pub marks_ended : (slots : List SlotView) (at id : ℕ) → Passed slots at id → length slots ≤ at → marked id slots ≡ slots
+marks_ended slots at id p h = p.marks ∙ ended slots at (λ (l : List SlotView). marked id l) refl h
 
 -- what is kept before the first file of a number, when one is shut
 pub record PassedFiles (files : List FileState) (at number : ℕ) : Type 0 where

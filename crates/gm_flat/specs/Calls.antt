@@ -15,7 +15,7 @@ use Rattle.gm_base.specs.declared.values.Errno.TheVariants.{BadF, Fault, Exist, 
 use Rattle.gm_base.specs.declared.values.Kind.{Kind}
 use Rattle.gm_base.specs.declared.values.Kind.TheVariants.{Private, Shared}
 use Rattle.gm_flat.specs.declared.effect.Effect.{Effect}
-use Rattle.gm_flat.specs.declared.effect.Effect.TheVariants.{File, Slot, NoSlot, Move, Attr, Cut, Shut, Word}
+use Rattle.gm_flat.specs.declared.effect.Effect.TheVariants.{File, Slot, Mark, NoSlot, Move, Attr, Cut, Shut, Word}
 use Rattle.gm_flat.specs.declared.views.SlotView.{SlotView}
 use Rattle.gm_flat.specs.Slots.{slot_over, slot_by_id, slot_span, index_of, is_file}
 use Rattle.gm_flat.specs.FlatState.{Flat, FileState, AttrCall, in_use, has_flag}
@@ -40,6 +40,12 @@ pub data Plan : Type 0 where
   Short : (effect : Effect) → (answer : ℕ) → Plan
   Bracketed : (effect : Effect) → (spans : List Extent) → Plan
   Paged : (pages : PagePlan) → Plan
+
+-- the mark of its slot with which a deletion or a move begins: faults that find it retry
+abbrev pub mark_of : Effect → Option Effect
+mark_of (NoSlot slot) = Some (Mark slot)
+mark_of (Move slot base) = Some (Mark slot)
+mark_of _ = None
 
 -- a file's size in bytes, and offsets in a file, end below this, 2^63
 abbrev pub OFFSET_LIMIT : ℕ

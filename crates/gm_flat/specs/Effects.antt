@@ -9,7 +9,7 @@ use Rattle.gm_base.specs.declared.values.Folio.{Folio}
 use Rattle.gm_flat.specs.declared.effect.Backing.{Backing}
 use Rattle.gm_flat.specs.declared.effect.Backing.TheVariants.{Folio as InFolio}
 use Rattle.gm_flat.specs.declared.effect.Effect.{Effect}
-use Rattle.gm_flat.specs.declared.effect.Effect.TheVariants.{File, Slot, NoSlot, Move, Attr, Cut, Shut, Word}
+use Rattle.gm_flat.specs.declared.effect.Effect.TheVariants.{File, Slot, Mark, NoSlot, Move, Attr, Cut, Shut, Word}
 use Rattle.gm_flat.specs.declared.views.SlotView.{SlotView}
 use Rattle.gm_flat.specs.FlatState.{Flat, FileState, FolioState, Triple, was_made, was_added}
 use Rattle.gm_flat.specs.Slots.{slot_over, index_of, is_file}
@@ -28,10 +28,15 @@ abbrev pub dropped : ℕ → List SlotView → List SlotView
 dropped id [] = []
 dropped id (s ∷ slots) = if nat_eq s.id id then slots else s ∷ dropped id slots
 
--- with the slot of that id at a new base
+-- with the slot of that id marked: it is to go or to move
+abbrev pub marked : ℕ → List SlotView → List SlotView
+marked id [] = []
+marked id (s ∷ slots) = if nat_eq s.id id then record s { invalid = true } ∷ slots else s ∷ marked id slots
+
+-- with the slot of that id at a new base, and not marked
 abbrev pub moved : ℕ → ℕ → List SlotView → List SlotView
 moved id base [] = []
-moved id base (s ∷ slots) = if nat_eq s.id id then record s { base = base } ∷ slots else s ∷ moved id base slots
+moved id base (s ∷ slots) = if nat_eq s.id id then record s { base = base; invalid = false } ∷ slots else s ∷ moved id base slots
 
 -- each slot of the file stays without one
 abbrev pub shut_slot : ℕ → SlotView → SlotView
@@ -69,7 +74,8 @@ shut file f = if was_made file f.files then record f { slots = shut_slots file f
 
 abbrev pub apply : Effect → Flat → Flat
 apply (File file pages block) f = record f { files = record { number = file; pages = pages; block = block; used = true } ∷ f.files }
-apply (Slot slot base pages user flags file index) f = with_slot (record { id = slot; base = base; pages = pages; user = user; flags = flags; file = file; index = index }) f
+apply (Slot slot base pages user flags file index) f = with_slot (record { id = slot; base = base; pages = pages; user = user; flags = flags; file = file; index = index; invalid = false }) f
+apply (Mark slot) f = record f { slots = marked slot f.slots }
 apply (NoSlot slot) f = record f { slots = dropped slot f.slots }
 apply (Move slot base) f = record f { slots = moved slot base f.slots }
 apply (Attr span kind) f = record f { attrs = record { span = span; kind = kind } ∷ f.attrs }

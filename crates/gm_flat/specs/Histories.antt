@@ -1,7 +1,7 @@
 -- *histories*: what a list of entries says of its actors. (This project's own.)
 -- A history stands here with its newest entry first. The position of an entry is the length of what stands before it,
 -- so "at i" is a list of length i. Everything that follows is read off such a list, entry by entry.
-use Rattle.std.specs.Prelude.{ℕ, suc, List, [], ◌∷◌, ◌++◌, Bool, true, false, length, Some, None, nat_eq, if◌then◌else◌}
+use Rattle.std.specs.Prelude.{ℕ, suc, List, [], ◌∷◌, ◌++◌, Bool, true, false, length, not, ◌&&◌, Some, None, nat_eq, if◌then◌else◌}
 use Rattle.std.specs.declared.option.Option.{Option}
 use Rattle.gm_base.specs.Aim.{Aim}
 use Rattle.gm_base.specs.Extent.{Extent}
@@ -10,6 +10,8 @@ use Rattle.gm_base.specs.declared.values.Kind.{Kind}
 use Rattle.gm_base.specs.declared.values.Actor.{Actor}
 use Rattle.gm_base.specs.declared.values.Actor.TheVariants.{Vcpu, Caller}
 use Rattle.gm_flat.specs.declared.effect.Backing.{Backing}
+use Rattle.gm_flat.specs.declared.effect.Effect.{Effect}
+use Rattle.gm_flat.specs.declared.effect.Effect.TheVariants.{Mark}
 use Rattle.gm_flat.specs.declared.entry.Entry.{Entry}
 use Rattle.gm_flat.specs.declared.entry.What.{What}
 use Rattle.gm_flat.specs.declared.entry.What.TheVariants.{Miss, Sample, Look, Get, Install, Retry, Touch, Left, Judge, Begin, Acked, Change, Page, End, Answer, Gone}
@@ -98,6 +100,11 @@ pub record Call : Type 0 where
   pub made : Bool
   pub pages : ℕ
 
+-- a mark isn't the call's change, which follows it
+abbrev pub is_mark : Effect → Bool
+is_mark (Mark slot) = true
+is_mark _ = false
+
 abbrev pub with_change : Option Call → Option Call
 with_change None = None
 with_change (Some x) = Some (record x { made = true })
@@ -108,7 +115,7 @@ with_page (Some x) = Some (record x { pages = suc x.pages })
 
 abbrev pub call_step : ℕ → What → Actor → ℕ → Option Call → Option Call
 call_step c (Judge ioctl) a n x = if is_caller c a then Some (record { judged = n; ioctl = ioctl; made = false; pages = 0 }) else x
-call_step c (Change effect) a n x = if is_caller c a then with_change x else x
+call_step c (Change effect) a n x = if is_caller c a && not (is_mark effect) then with_change x else x
 call_step c (Page index folio pages) a n x = if is_caller c a then with_page x else x
 call_step c (Answer reply) a n x = if is_caller c a then None else x
 call_step c _ a n x = x

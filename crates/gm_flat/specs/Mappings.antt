@@ -1,5 +1,5 @@
 -- *flushes, leaves and fills*, read off the history. (Documentation/virt/kvm/locking.rst and mmu.c; that a buffer keeps
--- its last 64 fills, and that each bracket asks every vCPU to flush, is this project's own.)
+-- its last 256 fills, and that each bracket asks every vCPU to flush, is this project's own.)
 use Rattle.std.specs.Prelude.{ℕ, suc, ◌+◌, ◌*◌, ◌/◌, List, [], ◌∷◌, ◌++◌, Bool, true, false, ◌&&◌, ◌||◌, length, take, Some, None, nat_eq, if◌then◌else◌}
 use Rattle.std.specs.declared.option.Option.{Option}
 use Rattle.gm_base.specs.Aim.{Aim}
@@ -107,7 +107,7 @@ abbrev pub leaves : List Entry → List Mapping
 leaves [] = []
 leaves (e ∷ past) = leaves_step e.what e.actor past (leaves past)
 
--- the vCPU's fills: its last 64 Touches since its last Flush whose fill is their own position
+-- the vCPU's fills: its last 256 Touches since its last Flush whose fill is their own position
 abbrev pub fill_if : Bool → ℕ → Aim → Level → Flat → List Mapping → List Mapping
 fill_if false n access level f ms = ms
 fill_if true n access level f ms = take BUFFER_FILLS (record { made = n; page = access.page; level = level; kind = access.kind; gives = λ h. named f h } ∷ ms)

@@ -1,5 +1,5 @@
 -- *named page*: what slot, binding and attribute name at a guest page. (mmu.c, the fault path.)
-use Rattle.std.specs.Prelude.{ℕ, List, Bool, true, not, Some, None}
+use Rattle.std.specs.Prelude.{ℕ, List, Bool, true, not, Some, None, if◌then◌else◌}
 use Rattle.std.specs.declared.option.Option.{Option}
 use Rattle.gm_base.specs.declared.numbers.TheConstants.{KVM_MEM_READONLY}
 use Rattle.gm_base.specs.declared.values.Folio.{Folio}
@@ -39,6 +39,16 @@ abbrev pub named_by : ℕ → List Triple → Kind → Option SlotView → Optio
 named_by page cache Private slot = private_named page cache slot
 named_by page cache Shared slot = user_named page slot
 
--- nothing is named where no slot lies, nor where the attribute is private and the slot has no file or the index no folio
+-- the slot, where it isn't marked
+abbrev pub unmarked : Option SlotView → Option SlotView
+unmarked None = None
+unmarked (Some s) = if s.invalid then None else Some s
+
+-- nothing is named where no slot lies or it is marked, nor where the attribute is private and the slot has no file or the
+-- index no folio
 abbrev pub named : Flat → ℕ → Option Named
-named f page = named_by page f.cache (attr_of page f.attrs) (slot_over f.slots page)
+named f page = named_by page f.cache (attr_of page f.attrs) (unmarked (slot_over f.slots page))
+
+-- what is named with marks left aside
+abbrev pub named_aside : Flat → ℕ → Option Named
+named_aside f page = named_by page f.cache (attr_of page f.attrs) (slot_over f.slots page)

@@ -1,5 +1,5 @@
 -- *right calls*: the spans, changes, pages and answers of a call are those of its plan. (As the calls' plans.)
-use Rattle.std.specs.Prelude.{◌≡◌, ℕ, ◌+◌, ◌<◌, ◌≤◌, List, true, ◌⊎◌, Some, None, nat_eq, if◌then◌else◌}
+use Rattle.std.specs.Prelude.{◌≡◌, ℕ, ◌+◌, ◌<◌, ◌≤◌, List, Bool, true, false, ◌⊎◌, Some, None, nat_eq, if◌then◌else◌}
 use Rattle.std.specs.declared.option.Option.{Option}
 use Rattle.gm_base.specs.Extent.{Extent}
 use Rattle.gm_base.specs.declared.values.Setup.{Setup}
@@ -14,13 +14,13 @@ use Rattle.gm_flat.specs.declared.effect.Reply.TheVariants.{Good, Bad}
 use Rattle.gm_flat.specs.declared.entry.Entry.{Entry}
 use Rattle.gm_flat.specs.declared.entry.What.{What}
 use Rattle.gm_flat.specs.declared.entry.What.TheVariants.{Begin, Change, Page, Answer}
-use Rattle.gm_flat.specs.Histories.{Call, call}
+use Rattle.gm_flat.specs.Histories.{is_mark, Call, call}
 use Rattle.gm_flat.specs.FlatState.{Flat, cached}
 use Rattle.gm_flat.specs.Attribute.{attr_of}
 use Rattle.gm_flat.specs.Replay.{flat}
 use Rattle.gm_flat.specs.Words.{user_word}
 use Rattle.gm_flat.specs.RightLook.{IsFull}
-use Rattle.gm_flat.specs.Calls.{PagePlan, Plan, Refused, Same, Reads, Short, Bracketed, Paged}
+use Rattle.gm_flat.specs.Calls.{PagePlan, Plan, Refused, Same, Reads, Short, Bracketed, Paged, mark_of}
 use Rattle.gm_flat.specs.RightLives.{IsFirstOpen, plan_of, first_of_run}
 
 -- the spans of a Begin are those of its plan
@@ -34,9 +34,18 @@ IsEffect effect (Short e answer) = effect ≡ e
 IsEffect effect (Bracketed e spans) = effect ≡ e
 IsEffect effect _ = ⊥
 
+-- the mark that comes with the Begin of a deletion or a move
+abbrev pub IsMark : Effect → Plan → Type 0
+IsMark effect (Bracketed e spans) = mark_of e ≡ Some effect
+IsMark effect _ = ⊥
+
+abbrev pub IsChange : Bool → Effect → Plan → Type 0
+IsChange true effect plan = IsMark effect plan
+IsChange false effect plan = IsEffect effect plan
+
 abbrev pub RightChange : Setup → Effect → Option Call → List Entry → Type 0
 RightChange s effect None past = ⊥
-RightChange s effect (Some x) past = IsEffect effect (plan_of s x past)
+RightChange s effect (Some x) past = IsChange (is_mark effect) effect (plan_of s x past)
 
 -- a page of a population: the next index, which isn't cached and whose page is private
 pub record PopulatesPage (p : PagePlan) (base index pages : ℕ) (f : Flat) : Type 0 where

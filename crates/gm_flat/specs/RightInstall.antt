@@ -1,6 +1,6 @@
 -- *right install*: what a fault gets, and that it installs exactly where it isn't stale.
 -- (mmu.c, the fault path; kvm_host.h, the retry test; that a fault retries where its file was shut is this project's own.)
-use Rattle.std.specs.Prelude.{◌≡◌, ℕ, ◌<◌, List, true, false, Some, None}
+use Rattle.std.specs.Prelude.{◌≡◌, ℕ, ◌<◌, List, true, false, ◌⊎◌, Some, None}
 use Rattle.std.specs.declared.option.Option.{Option}
 use Rattle.gm_base.specs.Aim.{Aim}
 use Rattle.gm_base.specs.declared.values.Kind.{Kind}
@@ -19,7 +19,7 @@ use Rattle.gm_flat.specs.FlatState.{Flat, in_use, cached}
 use Rattle.gm_flat.specs.NamedPage.{Named, named}
 use Rattle.gm_flat.specs.Replay.{flat, looked_slot, index_in}
 use Rattle.gm_flat.specs.Invalidation.{stale}
-use Rattle.gm_flat.specs.RightLook.{Route, ToFault, ToMmio, ToFile, ToUser, route_seen}
+use Rattle.gm_flat.specs.RightLook.{Route, ToAgain, ToFault, ToMmio, ToFile, ToUser, route_seen}
 
 -- the folio that is cached, or a new one where none is
 abbrev pub CachedOrNew : Backing → ℕ → Option Folio → Type 0
@@ -39,6 +39,7 @@ UserGet backing fresh page None = ⊥
 abbrev pub GetBy : Route → Backing → ℕ → Aim → Seen → List Entry → Type 0
 GetBy ToUser backing fresh a seen past = UserGet backing fresh a.page (looked_slot seen past)
 GetBy ToFile backing fresh a seen past = FileGet backing fresh seen.file (index_in a.page (looked_slot seen past)) (flat past)
+GetBy ToAgain backing fresh a seen past = ⊥
 GetBy ToFault backing fresh a seen past = ⊥
 GetBy ToMmio backing fresh a seen past = ⊥
 
@@ -72,10 +73,11 @@ pub record ShutRetryIsRight (a : Aim) (sample : Option ℕ) (seen : Seen) (past 
 
 abbrev pub Retries : List Entry → Fault → Type 0
 Retries past (Faulting a missed sample look (Some gotten)) = stale sample a.page past ≡ true
-Retries past (Faulting a missed sample (Some seen) None) = ShutRetryIsRight a sample seen past
+Retries past (Faulting a missed sample (Some seen) None) = (route_seen a seen past ≡ ToAgain) ⊎ ShutRetryIsRight a sample seen past
 Retries past _ = ⊥
 
--- after its Get a fault's next entry is an Install or a Retry by the order of turns, so it is a Retry exactly where it is stale
+-- after its Get a fault's next entry is an Install or a Retry by the order of turns, so it is a Retry exactly where it is
+-- stale; after a Look that found a marked slot only a Retry has the route
 abbrev pub RightInstall : What → Actor → List Entry → Type 0
 RightInstall (Get backing fresh) (Vcpu v) past = RightGet backing fresh past (fault v past)
 RightInstall (Get backing fresh) (Caller c) past = ⊥

@@ -1,7 +1,7 @@
 -- *right look*: a sample and a look are true of the state at their `at`, and an exit is the one of its route.
 -- (mmu.c, the fault path; api.rst, KVM_EXIT_MEMORY_FAULT; that an exit for want of a frame carries no reason is this
 -- project's own.)
-use Rattle.std.specs.Prelude.{◌≡◌, ℕ, ◌*◌, ◌≤◌, ◌<◌, List, true, false, not, length, Some, None, if◌then◌else◌}
+use Rattle.std.specs.Prelude.{◌≡◌, ℕ, ◌*◌, ◌≤◌, ◌<◌, List, Bool, true, false, not, length, Some, None, if◌then◌else◌}
 use Rattle.std.specs.declared.option.Option.{Option}
 use Rattle.gm_base.specs.Aim.{Aim, address_of}
 use Rattle.gm_base.specs.Values.{same_kind, permits}
@@ -23,8 +23,10 @@ use Rattle.gm_flat.specs.FlatState.{Flat, FolioState, in_use, cached, is_free, h
 use Rattle.gm_flat.specs.Attribute.{attr_of}
 use Rattle.gm_flat.specs.Replay.{flat, flat_at, looked_slot, index_in}
 
--- the route table, over the slot and the attribute that were looked up
+-- the route table, over the slot and the attribute that were looked up. That a marked slot stands first is this project's
+-- own.
 pub data Route : Type 0 where
+  ToAgain : Route
   ToFault : Route
   ToMmio : Route
   ToFile : Route
@@ -46,8 +48,12 @@ abbrev pub route_by : Kind → Aim → Option SlotView → Route
 route_by Private a slot = private_route slot
 route_by Shared a slot = shared_route a slot
 
+abbrev pub is_marked : Option SlotView → Bool
+is_marked None = false
+is_marked (Some s) = s.invalid
+
 abbrev pub route : Aim → Kind → Option SlotView → Route
-route a attr slot = if same_kind a.kind attr then route_by a.kind a slot else ToFault
+route a attr slot = if is_marked slot then ToAgain else if same_kind a.kind attr then route_by a.kind a slot else ToFault
 
 -- a fault's route
 abbrev pub route_seen : Aim → Seen → List Entry → Route

@@ -9,14 +9,15 @@ use Rattle.gm_base.specs.declared.script.Command.TheVariants.{Touch as TouchComm
 use Rattle.gm_base.specs.declared.values.Setup.{Setup}
 use Rattle.gm_base.specs.declared.values.Actor.{Actor}
 use Rattle.gm_base.specs.declared.values.Actor.TheVariants.{Vcpu, Caller}
+use Rattle.gm_flat.specs.declared.effect.Effect.{Effect}
 use Rattle.gm_flat.specs.declared.entry.Entry.{Entry}
 use Rattle.gm_flat.specs.declared.entry.What.{What}
 use Rattle.gm_flat.specs.declared.entry.What.TheVariants.{Enter, Flush, Miss, Sample, Look, Get, Install, Retry, Touch, Left, Judge, Begin, Acked, Change, Page, End, Answer, Free, Gone}
-use Rattle.gm_flat.specs.Histories.{Fault, NoFault, Faulting, fault, Call, call, Bracket, bracket, gone, done, same_turn, newest_turn, before_turn}
+use Rattle.gm_flat.specs.Histories.{is_mark, Fault, NoFault, Faulting, fault, Call, call, Bracket, bracket, gone, done, same_turn, newest_turn, before_turn}
 use Rattle.gm_flat.specs.FlatState.{Flat}
 use Rattle.gm_flat.specs.Replay.{flat}
 use Rattle.gm_flat.specs.Mappings.{pending, inside, flushed}
-use Rattle.gm_flat.specs.Calls.{Plan, Refused, Same, Reads, Short, Bracketed, Paged, plan}
+use Rattle.gm_flat.specs.Calls.{Plan, Refused, Same, Reads, Short, Bracketed, Paged, plan, mark_of}
 use Rattle.gm_flat.specs.RightLives.{plan_of}
 use Rattle.gm_flat.specs.Locks.{WaitsForLock}
 
@@ -64,26 +65,40 @@ is_first_row (Bracketed effect spans) [] = true
 is_first_row (Paged pages) [] = true
 is_first_row _ ws = false
 
--- over the flat state before the turn
-abbrev pub is_caller_row : Setup → List What → Flat → Bool
-is_caller_row s (Judge ioctl ∷ ws) f = is_first_row (plan s ioctl f) ws
-is_caller_row s (Begin spans ∷ []) f = true
-is_caller_row s (Acked ∷ []) f = true
-is_caller_row s (Change effect ∷ ws) f = are_frees ws
-is_caller_row s (End ∷ (Answer reply ∷ [])) f = true
-is_caller_row s (Page index folio pages ∷ []) f = true
-is_caller_row s (Answer reply ∷ []) f = true
-is_caller_row s (Gone ∷ []) f = true
-is_caller_row s _ f = false
+-- the turn in which a bracket begins: with its mark for a deletion or a move, else alone
+abbrev pub is_marking : Option Effect → List What → Bool
+is_marking None [] = true
+is_marking (Some mark) (Change effect ∷ []) = true
+is_marking mark ws = false
 
-abbrev pub is_row : Setup → Actor → List What → Flat → Bool
-is_row s (Vcpu v) ws f = is_vcpu_row ws
-is_row s (Caller c) ws f = is_caller_row s ws f
+abbrev pub is_begin_row : Plan → List What → Bool
+is_begin_row (Bracketed effect spans) ws = is_marking (mark_of effect) ws
+is_begin_row _ ws = false
+
+abbrev pub begins_by : Setup → Option Call → List What → List Entry → Bool
+begins_by s None ws before = false
+begins_by s (Some x) ws before = is_begin_row (plan_of s x before) ws
+
+-- over the history before the turn
+abbrev pub is_caller_row : Setup → ℕ → List What → List Entry → Bool
+is_caller_row s c (Judge ioctl ∷ ws) before = is_first_row (plan s ioctl (flat before)) ws
+is_caller_row s c (Begin spans ∷ ws) before = begins_by s (call c before) ws before
+is_caller_row s c (Acked ∷ []) before = true
+is_caller_row s c (Change effect ∷ ws) before = are_frees ws
+is_caller_row s c (End ∷ (Answer reply ∷ [])) before = true
+is_caller_row s c (Page index folio pages ∷ []) before = true
+is_caller_row s c (Answer reply ∷ []) before = true
+is_caller_row s c (Gone ∷ []) before = true
+is_caller_row s c _ before = false
+
+abbrev pub is_row : Setup → Actor → List What → List Entry → Bool
+is_row s (Vcpu v) ws before = is_vcpu_row ws
+is_row s (Caller c) ws before = is_caller_row s c ws before
 
 -- the newest turn of a history is a whole row
 abbrev pub IsWhole : Setup → List Entry → Type 0
 IsWhole s [] = Unit {0}
-IsWhole s (e ∷ past) = is_row s e.actor (newest_turn (e ∷ past)) (flat (before_turn (e ∷ past))) ≡ true
+IsWhole s (e ∷ past) = is_row s e.actor (newest_turn (e ∷ past)) (before_turn (e ∷ past)) ≡ true
 
 -- steps: when an entry may come
 
@@ -144,15 +159,23 @@ abbrev pub Acks : Option Bracket → List Entry → Type 0
 Acks None past = ⊥
 Acks (Some b) past = (b.acked ≡ false) × (WaitsForFlush b past → ⊥)
 
--- a change comes once: right after the Judge, or in an acknowledged bracket
+-- a change comes once: right after the Judge, or in an acknowledged bracket; its mark right after the Begin
 abbrev pub IsDue : ℕ → ℕ → Plan → Option Bracket → Type 0
 IsDue here judged (Short effect answer) None = here ≡ suc judged
 IsDue here judged (Bracketed effect spans) (Some b) = b.acked ≡ true
 IsDue here judged _ b = ⊥
 
-abbrev pub Changes : Setup → Option Call → Option Bracket → List Entry → Type 0
-Changes s None b past = ⊥
-Changes s (Some x) b past = (x.made ≡ false) × IsDue (length past) x.judged (plan_of s x past) b
+abbrev pub IsMarkDue : ℕ → Option Bracket → Type 0
+IsMarkDue here None = ⊥
+IsMarkDue here (Some b) = here ≡ suc b.begun
+
+abbrev pub IsDueBy : Bool → ℕ → ℕ → Plan → Option Bracket → Type 0
+IsDueBy true here judged plan b = IsMarkDue here b
+IsDueBy false here judged plan b = IsDue here judged plan b
+
+abbrev pub Changes : Setup → Effect → Option Call → Option Bracket → List Entry → Type 0
+Changes s effect None b past = ⊥
+Changes s effect (Some x) b past = (x.made ≡ false) × IsDueBy (is_mark effect) (length past) x.judged (plan_of s x past) b
 
 abbrev pub Ends : Option Call → Option Bracket → Type 0
 Ends (Some x) (Some b) = x.made ≡ true
@@ -172,7 +195,7 @@ StepIs o (Left why) (Vcpu v) past = IsLooked (fault v past)
 StepIs o (Judge ioctl) (Caller c) past = Judges o c ioctl past
 StepIs o (Begin spans) (Caller c) past = Begins (call c past) (bracket c past)
 StepIs o Acked (Caller c) past = Acks (bracket c past) past
-StepIs o (Change effect) (Caller c) past = Changes o.setup (call c past) (bracket c past) past
+StepIs o (Change effect) (Caller c) past = Changes o.setup effect (call c past) (bracket c past) past
 StepIs o (Page index folio pages) (Caller c) past = bracket c past ≡ None
 StepIs o End (Caller c) past = Ends (call c past) (bracket c past)
 StepIs o (Answer reply) (Caller c) past = bracket c past ≡ None

@@ -5,7 +5,7 @@ use Rattle.gm_base.specs.Extent.{holds}
 use Rattle.gm_base.specs.declared.values.Actor.{Actor}
 use Rattle.gm_base.specs.declared.values.Actor.TheVariants.{Vcpu, Caller}
 use Rattle.gm_flat.specs.declared.effect.Effect.{Effect}
-use Rattle.gm_flat.specs.declared.effect.Effect.TheVariants.{File, Slot, NoSlot, Move, Attr, Cut, Shut, Word}
+use Rattle.gm_flat.specs.declared.effect.Effect.TheVariants.{File, Slot, Mark, NoSlot, Move, Attr, Cut, Shut, Word}
 use Rattle.gm_flat.specs.declared.entry.Entry.{Entry}
 use Rattle.gm_flat.specs.declared.entry.What.{What}
 use Rattle.gm_flat.specs.declared.entry.What.TheVariants.{Judge, Change, Answer}
@@ -42,6 +42,7 @@ is_on (Cut file lo hi) f page = in_cut file lo hi page (slot_over f.slots page)
 is_on (Shut file) f page = has_file file (slot_over f.slots page)
 is_on (File file pages block) f page = false
 is_on (Word p word value) f page = false
+is_on (Mark slot) f page = false
 
 -- the position after the last Change on the page
 abbrev pub changed_step : ℕ → What → List Entry → ℕ → ℕ

@@ -44,11 +44,15 @@ pub enum Effect {
         file: Option<u32>,
         index: u64,
     },
+    /// A slot is marked, before it is deleted or moves: a fault that finds it so retries.
+    Mark {
+        slot: u32,
+    },
     /// A slot is deleted.
     NoSlot {
         slot: u32,
     },
-    /// A slot moves to a new base.
+    /// A slot moves to a new base, and is marked no more.
     Move {
         slot: u32,
         base: u64,

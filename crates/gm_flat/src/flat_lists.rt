@@ -6,8 +6,9 @@ ghost use Rattle.gm_flat.specs.declared.views.SlotView.{SlotView};
 ghost use Rattle.gm_flat.specs.Attribute.{attr_of};
 ghost use Rattle.gm_flat.specs.Slots.{slot_by_id, slot_over, index_of};
 ghost use Rattle.gm_flat.specs.FlatState.{FileState as File, cached, was_made};
+ghost use Rattle.gm_flat.specs.NamedPage.{unmarked};
 ghost use Rattle.gm_flat.specs.Replayed.{within};
-ghost use Rattle.gm_flat.specs.Effects.{dropped, moved, shut_slot, shut_slots, shut_files, slot_fits, without, without_file};
+ghost use Rattle.gm_flat.specs.Effects.{dropped, marked, moved, shut_slot, shut_slots, shut_files, slot_fits, without, without_file};
 
 use crate::flat_items::{AttrCall, CachedPage, FileState};
 use crate::views::SlotView;
@@ -76,6 +77,14 @@ pub(crate) fn find_over(slots: &[SlotView], page: u64) -> Option<SlotView>
     None
 }
 
+/// The slot over a page, where it isn't marked.
+pub(crate) fn find_unmarked(slots: &[SlotView], page: u64) -> Option<SlotView>
+    ensures { result ≡ unmarked (slot_over slots.now page) }
+{
+    let slot = find_over(slots, page)?;
+    if slot.invalid { None } else { Some(slot) }
+}
+
 /// The slot with an id.
 pub(crate) fn find_id(slots: &[SlotView], id: u32) -> Option<SlotView>
     ensures { result ≡ slot_by_id slots.now id }
@@ -92,9 +101,11 @@ pub(crate) fn find_id(slots: &[SlotView], id: u32) -> Option<SlotView>
 fn place_of(slots: &[SlotView], id: u32) -> Option<usize>
     ensures bound { IfSome result (λ at. at < length slots.now) }
     ensures drops { IfSome result (λ at. remove slots.now at ≡ dropped id slots.now) }
-    ensures moves { IfSome result (λ at. (base : ℕ) (slot : SlotView) → slot ≡ slice_index_or slots.now at slot → slice_set slots.now at (record slot { base = base }) ≡ moved id base slots.now) }
+    ensures moves { IfSome result (λ at. (base : ℕ) (slot : SlotView) → slot ≡ slice_index_or slots.now at slot → slice_set slots.now at (record slot { base = base; invalid = false }) ≡ moved id base slots.now) }
+    ensures marks { IfSome result (λ at. (slot : SlotView) → slot ≡ slice_index_or slots.now at slot → slice_set slots.now at (record slot { invalid = true }) ≡ marked id slots.now) }
     ensures drops_none { IfNone result (dropped id slots.now ≡ slots.now) }
     ensures moves_none { IfNone result ((base : ℕ) → moved id base slots.now ≡ slots.now) }
+    ensures marks_none { IfNone result (marked id slots.now ≡ slots.now) }
 {
     for (at, slot) in slots.iter().enumerate() {
         if slot.id == id {
@@ -113,12 +124,25 @@ pub(crate) fn drop_id(slots: &mut Vec<SlotView>, id: u32)
     }
 }
 
-/// Moves the slot with an id to another base, where there is one.
+/// Marks the slot with an id, where there is one.
+pub(crate) fn mark_id(slots: &mut Vec<SlotView>, id: u32)
+    ensures { slots.new.items ≡ marked id slots.old.items }
+{
+    if let Some(at) = place_of(slots, id) {
+        slots[at].invalid = true;
+    }
+}
+
+/// Moves the slot with an id to another base, where there is one. It is marked no more.
 pub(crate) fn move_id(slots: &mut Vec<SlotView>, id: u32, base: u64)
     ensures { slots.new.items ≡ moved id base slots.old.items }
 {
     if let Some(at) = place_of(slots, id) {
-        slots[at].base = base;
+        slots[at] = SlotView {
+            base,
+            invalid: false,
+            ..slots[at]
+        };
     }
 }
 

@@ -10,7 +10,7 @@ ghost use Rattle.gm_flat.specs.Replayed.{AllFit, InRange, shown, with_cached};
 use crate::effect::{Backing, Effect};
 use crate::flat_items::{AttrCall, CachedPage, FileState};
 use crate::flat_lists::{
-    attr_at, cached_at, cut, cut_file, drop_id, find_over, fits, index_at, leave_file, move_id,
+    attr_at, cached_at, cut, cut_file, drop_id, find_unmarked, fits, index_at, leave_file, mark_id, move_id,
     place_of_file,
 };
 use crate::flat_runs::{Run, with_run};
@@ -63,7 +63,9 @@ impl State {
                 flags,
                 file,
                 index,
+                invalid: false,
             })?,
+            Effect::Mark { slot } => mark_id(&mut self.slots, slot),
             Effect::NoSlot { slot } => drop_id(&mut self.slots, slot),
             Effect::Move { slot, base } => move_id(&mut self.slots, slot, base),
             Effect::Attr { span, kind } => self.attrs.insert(0, AttrCall { span, kind })?,
@@ -129,7 +131,7 @@ impl State {
         ensures { MatchOption result (named (shown self.now) page ≡ None) (λ found. named (shown self.now) page ≡ Some (record { kind = found.0; backing = found.1; writable = found.2 })) }
     {
         let page = page.number();
-        let slot = find_over(&self.slots, page)?;
+        let slot = find_unmarked(&self.slots, page)?;
         match attr_at(&self.attrs, page) {
             Kind::Shared => {
                 let backing = Backing::User(slot.user + (page - slot.base));

@@ -3,6 +3,7 @@
 use gm_base::Kind;
 
 /// A slot. Its base, user page, index and count are pages. The file is None where the slot has none or it was closed.
+/// It is invalid where it is marked, since it is to go or to move.
 #[derive(Clone, Copy, Debug, PartialEq, Eq)]
 pub struct SlotView {
     pub id: u32,
@@ -12,6 +13,7 @@ pub struct SlotView {
     pub flags: u32,
     pub file: Option<u32>,
     pub index: u64,
+    pub invalid: bool,
 }
 
 /// A sequence, and the position at which it was true.
