@@ -1,6 +1,6 @@
 -- *replay*: the flat state after a list of entries. It is the fold of the effects from the start, and looks back at the
 -- states before, since an index is that of a Look's slot at the Look's `at`. (This project's own.)
-use Rattle.std.specs.Prelude.{ℕ, List, [], ◌∷◌, length, Some, None, nat_le, if◌then◌else◌}
+use Rattle.std.specs.Prelude.{ℕ, ◌+◌, List, [], ◌∷◌, length, Some, None, nat_le, if◌then◌else◌}
 use Rattle.std.specs.declared.option.Option.{Option}
 use Rattle.gm_base.specs.declared.values.Folio.{Folio}
 use Rattle.gm_base.specs.declared.values.Actor.{Actor}
@@ -28,10 +28,10 @@ slot_by (Some id) slots = slot_by_id slots id
 abbrev pub seen_slot : Seen → States → Option SlotView
 seen_slot seen st = if nat_le seen.at seen.place then slot_by seen.slot (st.before seen.at).slots else None
 
--- the index of a page in a slot
+-- the index of a page in a slot; none where it is below 0
 abbrev pub index_in : ℕ → Option SlotView → Option ℕ
 index_in page None = None
-index_in page (Some s) = Some (index_of s page)
+index_in page (Some s) = if nat_le s.base (s.index + page) then Some (index_of s page) else None
 
 -- what a Get and a Page add
 abbrev pub get_adds : Backing → ℕ → Fault → States → Option Addition

@@ -1,9 +1,10 @@
 //! Plain lists, the item added last first.
 
-ghost use Rattle.std.specs.Prelude.{◌≡◌, ℕ, ◌<◌, IfSome, IfNone, Some, true, false, length, slice_set, slice_index_or};
+ghost use Rattle.std.specs.Prelude.{◌≡◌, ℕ, ◌<◌, ◌≤◌, IfSome, IfNone, Some, true, false, length, slice_set, slice_index_or};
 ghost use Rattle.std.specs.List.{remove};
 ghost use Rattle.gm_flat.specs.declared.views.SlotView.{SlotView};
 ghost use Rattle.gm_flat.specs.Attribute.{attr_of};
+ghost use Rattle.gm_flat.specs.Replay.{index_in};
 ghost use Rattle.gm_flat.specs.Slots.{slot_by_id, slot_over, index_of};
 ghost use Rattle.gm_flat.specs.FlatState.{FileState as File, cached, was_made};
 ghost use Rattle.gm_flat.specs.NamedPage.{unmarked};
@@ -67,7 +68,8 @@ pub(crate) fn place_of_file(files: &[FileState], number: u32) -> Option<usize>
 
 /// The slot over a page.
 pub(crate) fn find_over(slots: &[SlotView], page: u64) -> Option<SlotView>
-    ensures { result ≡ slot_over slots.now page }
+    ensures found { result ≡ slot_over slots.now page }
+    ensures low { IfSome result (λ slot. slot.base ≤ page) }
 {
     for slot in slots {
         if page >= slot.base && page - slot.base < slot.pages {
@@ -79,7 +81,8 @@ pub(crate) fn find_over(slots: &[SlotView], page: u64) -> Option<SlotView>
 
 /// The slot over a page, where it isn't marked.
 pub(crate) fn find_unmarked(slots: &[SlotView], page: u64) -> Option<SlotView>
-    ensures { result ≡ unmarked (slot_over slots.now page) }
+    ensures found { result ≡ unmarked (slot_over slots.now page) }
+    ensures low { IfSome result (λ slot. slot.base ≤ page) }
 {
     let slot = find_over(slots, page)?;
     if slot.invalid { None } else { Some(slot) }
@@ -187,13 +190,21 @@ pub(crate) fn fits(slot: &SlotView) -> bool
     steps <= u64::MAX - slot.user && steps <= u64::MAX - slot.index
 }
 
-/// The index of the slot's file that a guest page stands for. None exactly where it is above the range of its type.
-pub(crate) fn index_at(slot: &SlotView, page: u64) -> Option<u64>
+/// The index of the slot's file that one of the slot's pages stands for. None exactly where it is above the range of its type.
+pub(crate) fn index_over(slot: &SlotView, page: u64) -> Option<u64>
+    requires { slot.now.base ≤ page }
     ensures { result ≡ within (Some (index_of slot.now page)) }
 {
+    slot.index.checked_add(page - slot.base)
+}
+
+/// The index of the slot's file that a guest page stands for. None exactly where it is below 0 or above the range of its type.
+pub(crate) fn index_at(slot: &SlotView, page: u64) -> Option<u64>
+    ensures { result ≡ within (index_in page (Some slot.now)) }
+{
     if slot.base <= page {
-        slot.index.checked_add(page - slot.base)
+        index_over(slot, page)
     } else {
-        Some(slot.index.saturating_sub(slot.base - page))
+        slot.index.checked_sub(slot.base - page)
     }
 }

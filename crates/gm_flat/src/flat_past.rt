@@ -159,8 +159,8 @@ fn slots_after(alloc: Global, entries: &[Entry]) -> Result<State, NoMemory>
     Ok(state)
 }
 
-/// The index of a page in the slot that a Look names, in the slots at its `at`. None too where it is above the range of its
-/// type.
+/// The index of a page in the slot that a Look names, in the slots at its `at`. None too where it is below 0 or above the
+/// range of its type.
 fn index_looked(
     alloc: Global,
     entries: &[Entry],
@@ -179,7 +179,8 @@ fn index_looked(
     }
 }
 
-/// The index of a page in the slot with an id. None too where it is above the range of its type.
+/// The index of a page in the slot with an id. None too where it is below 0 or above the range of
+/// its type.
 fn index_by_id(slots: &[SlotView], id: u32, page: u64) -> Option<u64>
     ensures { result ≡ within (index_in page (slot_by_id slots.now id)) }
 {

@@ -6,7 +6,7 @@ ghost use Rattle.gm_flat.specs.Effects.{addition_fits, get_addition, page_additi
 ghost use Rattle.gm_flat.specs.Replayed.{InRange, addition, run_of, source_file};
 
 use crate::flat_items::{CachedPage, FileState};
-use crate::flat_lists::{find_over, has_file, index_at};
+use crate::flat_lists::{find_over, has_file, index_over};
 use crate::views::SlotView;
 use gm_base::{BLOCK_PAGES, Folio, Ioctl, NoMemory, PAGE_BYTES};
 use std::alloc::Global;
@@ -81,7 +81,7 @@ pub(crate) fn file_of_call(ioctl: &Ioctl, index: u64, slots: &[SlotView]) -> Opt
             let page = gpa / PAGE_BYTES;
             let slot = find_over(slots, page)?;
             let file = slot.file?;
-            match index_at(&slot, page) {
+            match index_over(&slot, page) {
                 Some(first) if first <= index => Some(file),
                 _ => None,
             }

@@ -10,8 +10,8 @@ ghost use Rattle.gm_flat.specs.Replayed.{AllFit, InRange, shown, with_cached};
 use crate::effect::{Backing, Effect};
 use crate::flat_items::{AttrCall, CachedPage, FileState};
 use crate::flat_lists::{
-    attr_at, cached_at, cut, cut_file, drop_id, find_unmarked, fits, index_at, leave_file, mark_id, move_id,
-    place_of_file,
+    attr_at, cached_at, cut, cut_file, drop_id, find_unmarked, fits, index_over, leave_file,
+    mark_id, move_id, place_of_file,
 };
 use crate::flat_runs::{Run, with_run};
 use crate::views::SlotView;
@@ -139,7 +139,7 @@ impl State {
             }
             Kind::Private => {
                 let file = slot.file?;
-                let index = index_at(&slot, page)?;
+                let index = index_over(&slot, page)?;
                 let folio = cached_at(&self.cache, file, index)?;
                 Some((Kind::Private, Backing::Folio(folio), true))
             }
