@@ -1,6 +1,6 @@
 -- *right order*: turns, their rows, the commands, and who waits. (This project's own; that a bracket waits for the vCPUs
 -- inside is kvm_main.c's kvm_make_all_cpus_request and kvm_flush_remote_tlbs.)
-use Rattle.std.specs.Prelude.{◌≡◌, ℕ, zero, suc, ◌<◌, ◌≤◌, List, [], ◌∷◌, Bool, true, false, ◌⊎◌, length, Some, None}
+use Rattle.std.specs.Prelude.{◌≡◌, ℕ, zero, suc, ◌<◌, ◌≤◌, List, [], ◌∷◌, Bool, true, false, not, ◌&&◌, ◌⊎◌, length, Some, None}
 use Rattle.std.specs.declared.option.Option.{Option}
 use Rattle.gm_base.specs.Scripts.{Orders, commands_of, IsOf}
 use Rattle.gm_base.specs.declared.calls.Ioctl.{Ioctl}
@@ -60,7 +60,7 @@ abbrev pub is_first_row : Plan → List What → Bool
 is_first_row (Refused errno) (Answer reply ∷ []) = true
 is_first_row (Same answer) (Answer reply ∷ []) = true
 is_first_row (Reads page word) (Answer reply ∷ []) = true
-is_first_row (Short effect answer) (Change e ∷ (Answer reply ∷ [])) = true
+is_first_row (Short effect answer) (Change e ∷ (Answer reply ∷ [])) = not (is_mark e)
 is_first_row (Bracketed effect spans) [] = true
 is_first_row (Paged pages) [] = true
 is_first_row _ ws = false
@@ -68,7 +68,7 @@ is_first_row _ ws = false
 -- the turn in which a bracket begins: with its mark for a deletion or a move, else alone
 abbrev pub is_marking : Option Effect → List What → Bool
 is_marking None [] = true
-is_marking (Some mark) (Change effect ∷ []) = true
+is_marking (Some mark) (Change effect ∷ []) = is_mark effect
 is_marking mark ws = false
 
 abbrev pub is_begin_row : Plan → List What → Bool
@@ -84,7 +84,7 @@ abbrev pub is_caller_row : Setup → ℕ → List What → List Entry → Bool
 is_caller_row s c (Judge ioctl ∷ ws) before = is_first_row (plan s ioctl (flat before)) ws
 is_caller_row s c (Begin spans ∷ ws) before = begins_by s (call c before) ws before
 is_caller_row s c (Acked ∷ []) before = true
-is_caller_row s c (Change effect ∷ ws) before = are_frees ws
+is_caller_row s c (Change effect ∷ ws) before = not (is_mark effect) && are_frees ws
 is_caller_row s c (End ∷ (Answer reply ∷ [])) before = true
 is_caller_row s c (Page index folio pages ∷ []) before = true
 is_caller_row s c (Answer reply ∷ []) before = true

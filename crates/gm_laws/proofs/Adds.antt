@@ -8,18 +8,18 @@ use Rattle.gm_flat.specs.Calls.{Bracketed, PagePlan, Paged, Plan, Reads, Refused
 use Rattle.gm_flat.specs.Effects.{Addition, Source, add, addition_fits, fresh_run, get_addition, if_fits, page_addition, source, with_run}
 use Rattle.gm_flat.specs.FlatState.{FileState, Flat, Triple, cached}
 use Rattle.gm_flat.specs.Histories.{Call, Fault, Faulting, NoFault, Seen}
-use Rattle.gm_flat.specs.NamedPage.{Named, named}
+use Rattle.gm_flat.specs.NamedPage.{Named}
 use Rattle.gm_flat.specs.Replay.{adds, flat, flat_at, get_adds, index_in, looked_slot, page_adds, states}
 use Rattle.gm_flat.specs.RightCalls.{IsPage, IsPageOf, RightPage}
 use Rattle.gm_flat.specs.RightInstall.{CachedOrNew, FileGet, GetBy, RightGet, UserGet}
 use Rattle.gm_flat.specs.RightLives.{GetAdds, PageAdds, PageAddsBy, RightGetAdds, RightPageAdds, UsesFirst, first_of_run, plan_of}
-use Rattle.gm_flat.specs.RightLook.{Route, ToFault, ToFile, ToMmio, ToUser, route_seen}
+use Rattle.gm_flat.specs.RightLook.{Route, ToAgain, ToFault, ToFile, ToMmio, ToUser, route_seen}
 use Rattle.gm_flat.specs.RightOrder.{IsLooked}
 use Rattle.gm_flat.specs.declared.effect.Backing.{Backing}
 use Rattle.gm_flat.specs.declared.effect.Backing.TheVariants.{Folio as InFolio, User}
 use Rattle.gm_flat.specs.declared.entry.Entry.{Entry}
 use Rattle.gm_flat.specs.declared.views.SlotView.{SlotView}
-use Rattle.gm_laws.proofs.Flats.{cached-with_run, named_grow, with_run_at}
+use Rattle.gm_laws.proofs.Flats.{cached-with_run, named_grow, named_with, with_run_at}
 use Rattle.gm_laws.proofs.Kit.{cond_is, none_is, some_same}
 
 -- nothing of what is added was cached
@@ -28,9 +28,9 @@ IsRunFree None f = Unit {0}
 IsRunFree (Some d) f = (j : ℕ) → d.index ≤ j → j < d.index + d.pages → cached d.file j f.cache ≡ None
 
 -- what is named stays named
-pub add_names : (o : Option Addition) (f : Flat) (g : ℕ) (m : Named) → IsRunFree o f → named f g ≡ Some m → named (add o f) g ≡ Some m
-add_names None f g m free h = h
-add_names (Some d) f g m free h = named_grow f (with_run d.pages d.file d.index d.serial d.frame f.cache) g m (λ K j fo e. cached-with_run d.pages K j d.file d.index d.serial d.frame fo f.cache free e) h
+pub add_names : (U : Option SlotView → Option SlotView) (o : Option Addition) (f : Flat) (g : ℕ) (m : Named) → IsRunFree o f → named_with U f g ≡ Some m → named_with U (add o f) g ≡ Some m
+add_names U None f g m free h = h
+add_names U (Some d) f g m free h = named_grow U f (with_run d.pages d.file d.index d.serial d.frame f.cache) g m (λ K j fo e. cached-with_run d.pages K j d.file d.index d.serial d.frame fo f.cache free e) h
 
 pub add_cached : (o : Option Addition) (f : Flat) (K j : ℕ) (fo : Folio) → IsRunFree o f → cached K j f.cache ≡ Some fo → cached K j (add o f).cache ≡ Some fo
 add_cached None f K j fo free h = h
@@ -164,6 +164,7 @@ none_free o f e = subst (λ (x : Option Addition). IsRunFree x f) (sym e) tt
 route_free : (r : Route) (b : Backing) (fresh frames : ℕ) (a : Aim) (l : Seen) (past : List Entry) → GetBy r b fresh a l past → (0 < fresh → GetAdds frames (index_in a.page (looked_slot l past)) (get_addition b fresh l.file (index_in a.page (looked_slot l past)) (flat past).files) (flat past)) → IsRunFree (get_addition b fresh l.file (index_in a.page (looked_slot l past)) (flat past).files) (flat past)
 route_free ToUser b fresh frames a l past g adds = none_free (get_addition b fresh l.file (index_in a.page (looked_slot l past)) (flat past).files) (flat past) (user_none b fresh a.page (looked_slot l past) l.file (index_in a.page (looked_slot l past)) (flat past).files g)
 route_free ToFile b fresh frames a l past g adds = (file_get b fresh frames l.file (index_in a.page (looked_slot l past)) (flat past) g adds).0
+route_free ToAgain b fresh frames a l past g adds = absurd g
 route_free ToFault b fresh frames a l past g adds = absurd g
 route_free ToMmio b fresh frames a l past g adds = absurd g
 

@@ -20,7 +20,7 @@ use Rattle.gm_flat.specs.Replay.{flat, flat_at}
 use Rattle.gm_flat.specs.RightHistory.{Right}
 use Rattle.gm_flat.specs.Slots.{index_of, slot_over, slot_span}
 use Rattle.gm_flat.specs.declared.effect.Effect.{Effect}
-use Rattle.gm_flat.specs.declared.effect.Effect.TheVariants.{Attr, Cut, File, Move, NoSlot, Shut, Slot, Word}
+use Rattle.gm_flat.specs.declared.effect.Effect.TheVariants.{Attr, Cut, File, Mark, Move, NoSlot, Shut, Slot, Word}
 use Rattle.gm_flat.specs.declared.entry.Entry.{Entry}
 use Rattle.gm_flat.specs.declared.entry.What.{What}
 use Rattle.gm_flat.specs.declared.entry.What.TheVariants.{Change}
@@ -29,11 +29,12 @@ use Rattle.gm_laws.proofs.Flats.{cond_P, of_file, with_id}
 use Rattle.gm_laws.proofs.Grow.{same_state}
 use Rattle.gm_laws.proofs.Ids.{MemSlot}
 use Rattle.gm_laws.proofs.Kit.{by, flat_at_all}
-use Rattle.gm_laws.proofs.Locks.{ChangeIn, Locks, SlotFiles, still_file}
+use Rattle.gm_laws.proofs.Locks.{ChangeIn, Locks, MarkIn, SlotFiles, still_file}
 use Rattle.gm_laws.proofs.LocksKeep.{CanChange, can_change}
 use Rattle.gm_laws.proofs.Plans.{Fits, fits}
 use Rattle.gm_laws.proofs.RightIsRuled.{ruled}
-use Rattle.gm_laws.proofs.SlotsKeep.{all_dropped, all_map, all_moved, all_shut, all_with, slots_now, slots_then}
+use Rattle.gm_laws.proofs.SafeChange.{mark_is}
+use Rattle.gm_laws.proofs.SlotsKeep.{all_dropped, all_map, all_marked, all_moved, all_shut, all_with, slots_now, slots_then}
 use Rattle.gm_laws.proofs.Touches.{locks}
 use Rattle.gm_laws.proofs.Fronts.{front_follows}
 use Rattle.gm_laws.specs.BoundRanges.{BoundRanges, IsInsideFile}
@@ -136,6 +137,7 @@ new_short (File file pages block) n f h = h
 new_short (Slot id base pages user flags file index) n f h = h
 new_short (NoSlot id) n f h = tt
 new_short (Move id base) n f h = tt
+new_short (Mark id) n f h = tt
 new_short (Attr span kind) n f h = tt
 new_short (Cut file lo hi) n f h = tt
 new_short (Shut file) n f h = tt
@@ -144,6 +146,7 @@ new_short (Word page word value) n f h = tt
 new_bracket : (e : Effect) (i : Ioctl) (h f : Flat) (spans : List Extent) → Fits i h (Bracketed e spans) → New e f
 new_bracket (File file pages block) i h f spans x = absurd x
 new_bracket (Slot id base pages user flags file index) i h f spans x = absurd x
+new_bracket (Mark id) i h f spans x = absurd x
 new_bracket (NoSlot id) i h f spans x = tt
 new_bracket (Move id base) i h f spans x = tt
 new_bracket (Attr span kind) i h f spans x = tt
@@ -160,7 +163,14 @@ new_in s e d y past (Some b) k c h =
 
 pub new_by : (s : Setup) (e : Effect) (d : ℕ) (past : List Entry) (o : Option Call) → Locks s past → call d past ≡ o → CanChange s e past o (bracket d past) → New e (flat past)
 new_by s e d past None k c m = absurd m
-new_by s e d past (Some y) k c m = new_in s e d y past (bracket d past) k c m.1
+new_by s e d past (Some y) k c m = elim m.1 [
+  | inl x ↦ new_in s e d y past (bracket d past) k c x.1
+  | inr x ↦ new_mark s e y past (bracket d past) x
+]
+  where
+    new_mark : (s : Setup) (e : Effect) (y : Call) (past : List Entry) (o : Option Bracket) → MarkIn s e past y o → New e (flat past)
+    new_mark s e y past None m = absurd m
+    new_mark s e y past (Some b) m = let w = mark_is m.1.0 e m.1.3 in subst (λ (z : Effect). New z (flat past)) w.1 tt
 
 -- files
 length_shut : (K : ℕ) (files : List FileState) → length (shut_files K files) ≡ length files
@@ -240,9 +250,10 @@ pub record Kept (slots : List SlotView) (files : List FileState) : Type 0 where
 kept_effect : (e : Effect) (f : Flat) → New e f → SlotFiles f → Kept f.slots f.files → Kept (apply e f).slots (apply e f).files
 kept_effect (File file pages block) f new s k = record { numbered = file_numbered file pages block f.files new k.numbered; inside = file_inside file pages block f new k.numbered s k.inside }
 kept_effect (Slot id base pages user flags file index) f new s k =
-    let r : SlotView = record { id = id; base = base; pages = pages; user = user; flags = flags; file = file; index = index } in
+    let r : SlotView = record { id = id; base = base; pages = pages; user = user; flags = flags; file = file; index = index; invalid = false } in
     cond_P (λ (z : Flat). Kept z.slots z.files) (slot_fits r) (record f { slots = r ∷ f.slots }) f
     (record { numbered = k.numbered; inside = (new, k.inside) }) k
+kept_effect (Mark id) f new s k = record { numbered = k.numbered; inside = all_marked (Inside f.files) id f.slots (λ r h. h) k.inside }
 kept_effect (NoSlot id) f new s k = record { numbered = k.numbered; inside = all_dropped (Inside f.files) id f.slots k.inside }
 kept_effect (Move id base) f new s k = record { numbered = k.numbered; inside = all_moved (Inside f.files) id base f.slots (λ r e. all_with (Inside f.files) id r f.slots e k.inside) k.inside }
 kept_effect (Shut K) f new s k =

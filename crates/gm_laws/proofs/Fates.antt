@@ -14,7 +14,7 @@ use Rattle.gm_flat.specs.Effects.{Addition, add, apply, slot_fits}
 use Rattle.gm_flat.specs.FlatState.{Flat, Triple, cached, is_live}
 use Rattle.gm_flat.specs.Histories.{Fault, Faulting, NoFault, before_turn, call, fault, same_turn, with_get, with_look, with_sample}
 use Rattle.gm_flat.specs.Mappings.{inside}
-use Rattle.gm_flat.specs.NamedPage.{Named, file_named, folio_named, named, named_by}
+use Rattle.gm_flat.specs.NamedPage.{Named, file_named, folio_named, named, named_aside, named_by}
 use Rattle.gm_flat.specs.Replay.{adds, flat, states}
 use Rattle.gm_flat.specs.RightLives.{FaultHolds, IsCached, IsLive, IsOfFolio, LivesAtRest, LivesOf}
 use Rattle.gm_flat.specs.RightOrder.{IsLooked, IsMissed, IsSampled}
@@ -23,7 +23,7 @@ use Rattle.gm_flat.specs.Slots.{index_of}
 use Rattle.gm_flat.specs.declared.effect.Backing.{Backing}
 use Rattle.gm_flat.specs.declared.effect.Backing.TheVariants.{Folio as InFolio, User}
 use Rattle.gm_flat.specs.declared.effect.Effect.{Effect}
-use Rattle.gm_flat.specs.declared.effect.Effect.TheVariants.{Attr, Cut, File, Move, NoSlot, Shut, Slot, Word}
+use Rattle.gm_flat.specs.declared.effect.Effect.TheVariants.{Attr, Cut, File, Mark, Move, NoSlot, Shut, Slot, Word}
 use Rattle.gm_flat.specs.declared.entry.Entry.{Entry}
 use Rattle.gm_flat.specs.declared.entry.What.{What}
 use Rattle.gm_flat.specs.declared.entry.What.TheVariants.{Change, Enter, Free, Get, Gone, Install, Left, Look, Miss, Page, Retry, Sample, Touch}
@@ -35,7 +35,7 @@ use Rattle.gm_laws.proofs.Good.{Good}
 use Rattle.gm_laws.proofs.KeepVcpu.{Installed, installed}
 use Rattle.gm_laws.proofs.Kit.{by, by_test, none_is}
 use Rattle.gm_laws.proofs.Lives.{live_left, live_with}
-use Rattle.gm_laws.proofs.Touches.{good, touched}
+use Rattle.gm_laws.proofs.Touches.{good, touched, use_aside}
 use Rattle.gm_laws.specs.May.{May}
 use Rattle.gm_laws.specs.Ruled.{AllFreed, Follows, IsUsed, cuts, loosened, loosens}
 
@@ -150,16 +150,16 @@ named_folio f g fo Private (Some r) m e h = filed r.file e
     filed None e = absurd (none_is m e)
     filed (Some F) e = found F (cached F (index_of r g) f.cache) refl e
 
-use_cached : (fo : Folio) (a : Aim) (f : Flat) (g : ℕ) (o : Option Named) → named f g ≡ o → CanUse a (InFolio fo) o → IsCached fo.serial f
+use_cached : (fo : Folio) (a : Aim) (f : Flat) (g : ℕ) (o : Option Named) → named_aside f g ≡ o → CanUse a (InFolio fo) o → IsCached fo.serial f
 use_cached fo a f g None e u = absurd u
 use_cached fo a f g (Some m) e u = let x = named_folio f g fo (attr_of g f.attrs) (over g f.slots) m e u.1 in (x.0, x.1, fo, x.2, refl)
 
-pub backing_cached : (s : ℕ) (b : Backing) (a : Aim) (f : Flat) (g : ℕ) → IsOfFolio s b → CanUse a b (named f g) → IsCached s f
+pub backing_cached : (s : ℕ) (b : Backing) (a : Aim) (f : Flat) (g : ℕ) → IsOfFolio s b → CanUse a b (named_aside f g) → IsCached s f
 backing_cached s (User u) a f g h c = absurd h
-backing_cached s (InFolio fo) a f g h c = let x = use_cached fo a f g (named f g) refl c in (x.0, x.1, x.2, x.3, x.4 ∙ h)
+backing_cached s (InFolio fo) a f g h c = let x = use_cached fo a f g (named_aside f g) refl c in (x.0, x.1, x.2, x.3, x.4 ∙ h)
 
 install_cached : (s page : ℕ) (past : List Entry) (x : Fault) → FaultHolds s x → Installed page past x → IsCached s (flat past)
-install_cached s page past (Faulting a m (Some k) (Some l) (Some q)) h r = backing_cached s q.backing a (flat past) a.page h r.2
+install_cached s page past (Faulting a m (Some k) (Some l) (Some q)) h r = backing_cached s q.backing a (flat past) a.page h (use_aside a q.backing (flat past) a.page r.2)
 install_cached s page past (Faulting a m (Some k) (Some l) None) h r = absurd r
 install_cached s page past (Faulting a m (Some k) None q) h r = absurd r
 install_cached s page past (Faulting a m None l q) h r = absurd r
@@ -173,8 +173,9 @@ effect_cache : (e : Effect) (f : Flat) → cuts e ≡ false → (apply e f).cach
 effect_cache (Cut F lo hi) f e = absurd (both_ways true e refl)
 effect_cache (Shut F) f e = absurd (both_ways true e refl)
 effect_cache (Slot id base pages user flags file index) f e =
-    let r : SlotView = record { id = id; base = base; pages = pages; user = user; flags = flags; file = file; index = index } in
+    let r : SlotView = record { id = id; base = base; pages = pages; user = user; flags = flags; file = file; index = index; invalid = false } in
     cond_P (λ (x : Flat). x.cache ≡ f.cache) (slot_fits r) (record f { slots = r ∷ f.slots }) f refl refl
+effect_cache (Mark id) f e = refl
 effect_cache (NoSlot id) f e = refl
 effect_cache (Move id base) f e = refl
 effect_cache (Attr span kind) f e = refl
@@ -303,7 +304,7 @@ at_rest o past r f =
     }
 
 -- a touch names a live folio
-pub touch_live : (b : Backing) (a : Aim) (g : ℕ) (past : List Entry) → LivesOk past → CanUse a b (named (flat past) g) → IsLive b (flat past)
+pub touch_live : (b : Backing) (a : Aim) (g : ℕ) (past : List Entry) → LivesOk past → CanUse a b (named_aside (flat past) g) → IsLive b (flat past)
 touch_live (User u) a g past l c = tt
 touch_live (InFolio fo) a g past l c = l.cached_live fo.serial (backing_cached fo.serial (InFolio fo) a (flat past) g refl c)
 

@@ -6,14 +6,14 @@ use Rattle.gm_base.specs.declared.values.Folio.{Folio}
 use Rattle.gm_base.specs.declared.values.Kind.{Kind}
 use Rattle.gm_base.specs.declared.values.Kind.TheVariants.{Private, Shared}
 use Rattle.gm_flat.specs.Attribute.{attr_of}
-use Rattle.gm_flat.specs.Effects.{apply, dropped, is_cut, moved, shut_files, shut_slot, shut_slots, slot_fits, with_run, without, without_file}
+use Rattle.gm_flat.specs.Effects.{apply, dropped, is_cut, marked, moved, shut_files, shut_slot, shut_slots, slot_fits, with_run, without, without_file}
 use Rattle.gm_flat.specs.FlatState.{Flat, Triple, cached, is_triple, was_made}
-use Rattle.gm_flat.specs.NamedPage.{Named, file_named, folio_named, named, named_by}
+use Rattle.gm_flat.specs.NamedPage.{Named, file_named, folio_named, named, named_aside, named_by, unmarked}
 use Rattle.gm_flat.specs.Slots.{index_of, is_file, lies_over, slot_by_id, slot_over}
 use Rattle.gm_flat.specs.Window.{has_file, in_cut, in_old_or_new, in_slot, is_on}
 use Rattle.gm_flat.specs.declared.effect.Backing.TheVariants.{Folio as InFolio}
 use Rattle.gm_flat.specs.declared.effect.Effect.{Effect}
-use Rattle.gm_flat.specs.declared.effect.Effect.TheVariants.{Attr, Cut, Move, NoSlot, Shut, Slot}
+use Rattle.gm_flat.specs.declared.effect.Effect.TheVariants.{Attr, Cut, Mark, Move, NoSlot, Shut, Slot}
 use Rattle.gm_flat.specs.declared.views.SlotView.{SlotView}
 use Rattle.gm_laws.proofs.Kit.{none_is, some_same}
 
@@ -37,15 +37,25 @@ pub over-dropped : (g id : ℕ) (rs : List SlotView) → in_slot g (with_id id r
 over-dropped g id [] h = refl
 over-dropped g id (r ∷ rs) h = dropped_step (eqb r.id id) (lies_over r g) g id r rs refl (over-dropped g id rs) h
 
-moved_step : (t u : Bool) (g id base : ℕ) (r : SlotView) (rs : List SlotView) → lies_over r g ≡ u → (in_old_or_new g base (with_id id rs) ≡ false → over g (moved id base rs) ≡ over g rs) → in_old_or_new g base (cond t (Some r) (with_id id rs)) ≡ false → over g (cond t (record r { base = base } ∷ rs) (r ∷ moved id base rs)) ≡ cond u (Some r) (over g rs)
+moved_step : (t u : Bool) (g id base : ℕ) (r : SlotView) (rs : List SlotView) → lies_over r g ≡ u → (in_old_or_new g base (with_id id rs) ≡ false → over g (moved id base rs) ≡ over g rs) → in_old_or_new g base (cond t (Some r) (with_id id rs)) ≡ false → over g (cond t (record r { base = base; invalid = false } ∷ rs) (r ∷ moved id base rs)) ≡ cond u (Some r) (over g rs)
 moved_step true true g id base r rs e ih h = absurd (both_ways _ (or_parts _ _ h).0 e)
-moved_step true false g id base r rs e ih h = let k : lies_over (record r { base = base }) g ≡ false = (or_parts _ _ h).1 in rw k refl
+moved_step true false g id base r rs e ih h = let k : lies_over (record r { base = base; invalid = false }) g ≡ false = (or_parts _ _ h).1 in rw k refl
 moved_step false true g id base r rs e ih h = rw e refl
 moved_step false false g id base r rs e ih h = rw e (ih h)
 
 pub over-moved : (g id base : ℕ) (rs : List SlotView) → in_old_or_new g base (with_id id rs) ≡ false → over g (moved id base rs) ≡ over g rs
 over-moved g id base [] h = refl
 over-moved g id base (r ∷ rs) h = moved_step (eqb r.id id) (lies_over r g) g id base r rs refl (over-moved g id base rs) h
+
+marked_step : (t u : Bool) (g id : ℕ) (r : SlotView) (rs : List SlotView) → lies_over r g ≡ u → (in_slot g (with_id id rs) ≡ false → over g (marked id rs) ≡ over g rs) → in_slot g (cond t (Some r) (with_id id rs)) ≡ false → over g (cond t (record r { invalid = true } ∷ rs) (r ∷ marked id rs)) ≡ cond u (Some r) (over g rs)
+marked_step true true g id r rs e ih h = absurd (both_ways _ h e)
+marked_step true false g id r rs e ih h = rw e refl
+marked_step false true g id r rs e ih h = rw e refl
+marked_step false false g id r rs e ih h = rw e (ih h)
+
+pub over-marked : (g id : ℕ) (rs : List SlotView) → in_slot g (with_id id rs) ≡ false → over g (marked id rs) ≡ over g rs
+over-marked g id [] h = refl
+over-marked g id (r ∷ rs) h = marked_step (eqb r.id id) (lies_over r g) g id r rs refl (over-marked g id rs) h
 
 shut_step : (u : Bool) (g F : ℕ) (r : SlotView) (rs : List SlotView) → (has_file F (over g rs) ≡ false → over g (shut_slots F rs) ≡ over g rs) → has_file F (cond u (Some r) (over g rs)) ≡ false → cond u (Some (shut_slot F r)) (over g (shut_slots F rs)) ≡ cond u (Some r) (over g rs)
 shut_step true g F r rs ih h = rw h refl
@@ -105,17 +115,23 @@ cond_P P true x y a b = a
 cond_P P false x y a b = b
 
 abbrev plain_slot : ℕ → ℕ → ℕ → ℕ → ℕ → Option ℕ → ℕ → SlotView
-plain_slot slot base pages user flags file index = record { id = slot; base = base; pages = pages; user = user; flags = flags; file = file; index = index }
+plain_slot slot base pages user flags file index = record { id = slot; base = base; pages = pages; user = user; flags = flags; file = file; index = index; invalid = false }
 
 new_over : (s : SlotView) (rs : List SlotView) (g : ℕ) → lies_over s g ≡ false → over g (s ∷ rs) ≡ over g rs
 new_over s rs g h = rw h refl
 
-pub slot_keep : (effect : Effect) (f : Flat) (g : ℕ) → is_on effect f g ≡ false → over g (apply effect f).slots ≡ over g f.slots
+-- whether an effect changes what slot or attribute lies over a page: where it is on the page, and where it marks its slot
+abbrev pub alters : Effect → Flat → ℕ → Bool
+alters (Mark id) f g = in_slot g (with_id id f.slots)
+alters e f g = is_on e f g
+
+pub slot_keep : (effect : Effect) (f : Flat) (g : ℕ) → alters effect f g ≡ false → over g (apply effect f).slots ≡ over g f.slots
 slot_keep (Slot slot base pages user flags file index) f g h =
     let s : SlotView = plain_slot slot base pages user flags file index in
     cond_P (λ (x : Flat). over g x.slots ≡ over g f.slots) (slot_fits s) (record f { slots = s ∷ f.slots }) f (new_over s f.slots g h) refl
 slot_keep (NoSlot slot) f g h = over-dropped g slot f.slots h
 slot_keep (Move slot base) f g h = over-moved g slot base f.slots h
+slot_keep (Mark id) f g h = over-marked g id f.slots h
 slot_keep (Shut file) f g h = cond_P (λ (x : Flat). over g x.slots ≡ over g f.slots) (was_made file f.files) (record f { slots = shut_slots file f.slots; files = shut_files file f.files; cache = without_file file f.cache }) f (over-shut g file f.slots h) refl
 slot_keep _ f g h = refl
 
@@ -127,19 +143,108 @@ attr_keep (Slot slot base pages user flags file index) f g h =
 attr_keep (Shut file) f g h = cond_P (λ (x : Flat). attr_of g x.attrs ≡ attr_of g f.attrs) (was_made file f.files) (record f { slots = shut_slots file f.slots; files = shut_files file f.files; cache = without_file file f.cache }) f refl refl
 attr_keep _ f g h = refl
 
-pub named_keep : (effect : Effect) (f : Flat) (g : ℕ) → is_on effect f g ≡ false → named (apply effect f) g ≡ named f g
-named_keep (Slot slot base pages user flags file index) f g h =
+-- what is named over the slot that is found, or over it where it isn't marked
+abbrev pub named_with : (Option SlotView → Option SlotView) → Flat → ℕ → Option Named
+named_with U f g = named_by g f.cache (attr_of g f.attrs) (U (over g f.slots))
+
+-- what a slot isn't in, or has no file of, it isn't where it is left out
+pub record Passes (U : Option SlotView → Option SlotView) : Type 0 where
+  pub cut : (F lo hi g : ℕ) (o : Option SlotView) → in_cut F lo hi g o ≡ false → in_cut F lo hi g (U o) ≡ false
+  pub file : (F : ℕ) (o : Option SlotView) → has_file F o ≡ false → has_file F (U o) ≡ false
+
+left_out : (P : Option SlotView → Type 0) (t : Bool) (r : SlotView) → P None → P (Some r) → P (cond t None (Some r))
+left_out P true r a b = a
+left_out P false r a b = b
+
+pub passes_unmarked : Passes unmarked
+passes_unmarked = record { cut = cut; file = file }
+  where
+    cut : (F lo hi g : ℕ) (o : Option SlotView) → in_cut F lo hi g o ≡ false → in_cut F lo hi g (unmarked o) ≡ false
+    cut F lo hi g None h = h
+    cut F lo hi g (Some r) h = left_out (λ (o : Option SlotView). in_cut F lo hi g o ≡ false) r.invalid r refl h
+
+    file : (F : ℕ) (o : Option SlotView) → has_file F o ≡ false → has_file F (unmarked o) ≡ false
+    file F None h = h
+    file F (Some r) h = left_out (λ (o : Option SlotView). has_file F o ≡ false) r.invalid r refl h
+
+pub passes_all : Passes (λ o. o)
+passes_all = record { cut = λ F lo hi g o h. h; file = λ F o h. h }
+
+keep_with : (U : Option SlotView → Option SlotView) → Passes U → (effect : Effect) (f : Flat) (g : ℕ) → is_on effect f g ≡ false → over g (apply effect f).slots ≡ over g f.slots → named_with U (apply effect f) g ≡ named_with U f g
+keep_with U p (Slot slot base pages user flags file index) f g h e =
     let s : SlotView = plain_slot slot base pages user flags file index in
-    cond_P (λ (x : Flat). named x g ≡ named f g) (slot_fits s) (record f { slots = s ∷ f.slots }) f (ap (named_by g f.cache (attr_of g f.attrs)) (new_over s f.slots g h)) refl
-named_keep (NoSlot slot) f g h = ap (named_by g f.cache (attr_of g f.attrs)) (over-dropped g slot f.slots h)
-named_keep (Move slot base) f g h = ap (named_by g f.cache (attr_of g f.attrs)) (over-moved g slot base f.slots h)
-named_keep (Attr span kind) f g h = rw h refl
-named_keep (Cut file lo hi) f g h = cut_by g file lo hi f.cache (attr_of g f.attrs) (over g f.slots) h
-named_keep (Shut file) f g h =
-    cond_P (λ (x : Flat). named x g ≡ named f g) (was_made file f.files) (record f { slots = shut_slots file f.slots; files = shut_files file f.files; cache = without_file file f.cache }) f
-    (ap (named_by g (without_file file f.cache) (attr_of g f.attrs)) (over-shut g file f.slots h) ∙ shut_by g file f.cache (attr_of g f.attrs) (over g f.slots) h)
-    refl
-named_keep _ f g h = refl
+    cond_P (λ (x : Flat). over g x.slots ≡ over g f.slots → named_with U x g ≡ named_with U f g) (slot_fits s) (record f { slots = s ∷ f.slots }) f (λ k. ap (λ (o : Option SlotView). named_by g f.cache (attr_of g f.attrs) (U o)) k) (λ k. refl) e
+keep_with U p (NoSlot slot) f g h e = ap (λ (o : Option SlotView). named_by g f.cache (attr_of g f.attrs) (U o)) e
+keep_with U p (Mark slot) f g h e = ap (λ (o : Option SlotView). named_by g f.cache (attr_of g f.attrs) (U o)) e
+keep_with U p (Move slot base) f g h e = ap (λ (o : Option SlotView). named_by g f.cache (attr_of g f.attrs) (U o)) e
+keep_with U p (Attr span kind) f g h e = rw h refl
+keep_with U p (Cut file lo hi) f g h e = cut_by g file lo hi f.cache (attr_of g f.attrs) (U (over g f.slots)) (p.cut file lo hi g (over g f.slots) h)
+keep_with U p (Shut file) f g h e =
+    cond_P (λ (x : Flat). over g x.slots ≡ over g f.slots → named_with U x g ≡ named_with U f g) (was_made file f.files) (record f { slots = shut_slots file f.slots; files = shut_files file f.files; cache = without_file file f.cache }) f
+    (λ k. ap (λ (o : Option SlotView). named_by g (without_file file f.cache) (attr_of g f.attrs) (U o)) k ∙ shut_by g file f.cache (attr_of g f.attrs) (U (over g f.slots)) (p.file file (over g f.slots) h))
+    (λ k. refl) e
+keep_with U p _ f g h e = refl
+
+-- what alters no page is on none
+pub on_altered : (effect : Effect) (f : Flat) (g : ℕ) → alters effect f g ≡ false → is_on effect f g ≡ false
+on_altered (Mark id) f g h = refl
+on_altered (Slot slot base pages user flags file index) f g h = h
+on_altered (NoSlot slot) f g h = h
+on_altered (Move slot base) f g h = h
+on_altered (Attr span kind) f g h = h
+on_altered (Cut file lo hi) f g h = h
+on_altered (Shut file) f g h = h
+on_altered _ f g h = h
+
+pub named_keep : (effect : Effect) (f : Flat) (g : ℕ) → alters effect f g ≡ false → named (apply effect f) g ≡ named f g
+named_keep effect f g h = keep_with unmarked passes_unmarked effect f g (on_altered effect f g h) (slot_keep effect f g h)
+
+-- with marks left aside a mark changes no name
+mark_over : (g id : ℕ) (ts : List Triple) (kind : Kind) (rs : List SlotView) → named_by g ts kind (over g (marked id rs)) ≡ named_by g ts kind (over g rs)
+mark_over g id ts kind [] = refl
+mark_over g id ts kind (r ∷ rs) = go (eqb r.id id) (mark_over g id ts kind rs)
+  where
+    own : (kind : Kind) → named_by g ts kind (Some (record r { invalid = true })) ≡ named_by g ts kind (Some r)
+    own Shared = refl
+    own Private = refl
+
+    either : (u : Bool) → named_by g ts kind (cond u (Some (record r { invalid = true })) (over g rs)) ≡ named_by g ts kind (cond u (Some r) (over g rs))
+    either true = own kind
+    either false = refl
+
+    other : (u : Bool) → named_by g ts kind (over g (marked id rs)) ≡ named_by g ts kind (over g rs) → named_by g ts kind (cond u (Some r) (over g (marked id rs))) ≡ named_by g ts kind (cond u (Some r) (over g rs))
+    other true ih = refl
+    other false ih = ih
+
+    go : (t : Bool) → named_by g ts kind (over g (marked id rs)) ≡ named_by g ts kind (over g rs) → named_by g ts kind (over g (cond t (record r { invalid = true } ∷ rs) (r ∷ marked id rs))) ≡ named_by g ts kind (cond (lies_over r g) (Some r) (over g rs))
+    go true ih = either (lies_over r g)
+    go false ih = other (lies_over r g) ih
+
+pub aside_keep : (effect : Effect) (f : Flat) (g : ℕ) → is_on effect f g ≡ false → named_aside (apply effect f) g ≡ named_aside f g
+aside_keep (Mark id) f g h = mark_over g id f.cache (attr_of g f.attrs) f.slots
+aside_keep (Slot slot base pages user flags file index) f g h = keep_with (λ o. o) passes_all (Slot slot base pages user flags file index) f g h (slot_keep (Slot slot base pages user flags file index) f g h)
+aside_keep (NoSlot slot) f g h = keep_with (λ o. o) passes_all (NoSlot slot) f g h (slot_keep (NoSlot slot) f g h)
+aside_keep (Move slot base) f g h = keep_with (λ o. o) passes_all (Move slot base) f g h (slot_keep (Move slot base) f g h)
+aside_keep (Attr span kind) f g h = keep_with (λ o. o) passes_all (Attr span kind) f g h (slot_keep (Attr span kind) f g h)
+aside_keep (Cut file lo hi) f g h = keep_with (λ o. o) passes_all (Cut file lo hi) f g h (slot_keep (Cut file lo hi) f g h)
+aside_keep (Shut file) f g h = keep_with (λ o. o) passes_all (Shut file) f g h (slot_keep (Shut file) f g h)
+aside_keep _ f g h = refl
+
+-- what is named is named with marks left aside
+left_in : (g : ℕ) (ts : List Triple) (kind : Kind) (o : Option SlotView) (m : Named) → named_by g ts kind (unmarked o) ≡ Some m → named_by g ts kind o ≡ Some m
+left_in g ts kind None m e = e
+left_in g ts kind (Some r) m e = by_mark r.invalid kind e
+  where
+    none : (kind : Kind) → named_by g ts kind None ≡ Some m → ⊥
+    none Shared e = none_is m e
+    none Private e = none_is m e
+
+    by_mark : (t : Bool) (kind : Kind) → named_by g ts kind (cond t None (Some r)) ≡ Some m → named_by g ts kind (Some r) ≡ Some m
+    by_mark true kind e = absurd (none kind e)
+    by_mark false kind e = e
+
+pub named_is_aside : (f : Flat) (g : ℕ) (m : Named) → named f g ≡ Some m → named_aside f g ≡ Some m
+named_is_aside f g m e = left_in g f.cache (attr_of g f.attrs) (over g f.slots) m e
 
 -- more folios
 run_step : (t : Bool) (K j F i k : ℕ) (fo new : Folio) (ts rest : List Triple) → (eqb F K && eqb (i + k) j) ≡ t → ((x : ℕ) → i ≤ x → x < i + suc k → cached F x ts ≡ None) → cached K j ts ≡ Some fo → cached K j rest ≡ Some fo → cond t (Some new) (cached K j rest) ≡ Some fo
@@ -202,8 +307,8 @@ grow_by g ts us Shared row m f h = h
 grow_by g ts us Private None m f h = h
 grow_by g ts us Private (Some r) m f h = grow_file (index_of r g) ts us r.file m f h
 
-pub named_grow : (f : Flat) (us : List Triple) (g : ℕ) (m : Named) → ((F j : ℕ) (fo : Folio) → cached F j f.cache ≡ Some fo → cached F j us ≡ Some fo) → named f g ≡ Some m → named (record f { cache = us }) g ≡ Some m
-named_grow f us g m h e = grow_by g f.cache us (attr_of g f.attrs) (over g f.slots) m h e
+pub named_grow : (U : Option SlotView → Option SlotView) (f : Flat) (us : List Triple) (g : ℕ) (m : Named) → ((F j : ℕ) (fo : Folio) → cached F j f.cache ≡ Some fo → cached F j us ≡ Some fo) → named_with U f g ≡ Some m → named_with U (record f { cache = us }) g ≡ Some m
+named_grow U f us g m h e = grow_by g f.cache us (attr_of g f.attrs) (U (over g f.slots)) m h e
 
 -- the kind of what is named is the page's attribute
 file_kind : (i : ℕ) (ts : List Triple) (o : Option ℕ) (m : Named) → file_named i ts o ≡ Some m → m.kind ≡ Private
@@ -224,4 +329,4 @@ kind_by g ts Private None m e = absurd (none_is m e)
 kind_by g ts Private (Some r) m e = file_kind (index_of r g) ts r.file m e
 
 pub named_kind : (f : Flat) (g : ℕ) (m : Named) → named f g ≡ Some m → m.kind ≡ attr_of g f.attrs
-named_kind f g m e = kind_by g f.cache (attr_of g f.attrs) (over g f.slots) m e
+named_kind f g m e = kind_by g f.cache (attr_of g f.attrs) (unmarked (over g f.slots)) m e

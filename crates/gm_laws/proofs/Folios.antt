@@ -15,12 +15,12 @@ use Rattle.gm_flat.specs.Replay.{adds, flat, get_adds, index_in, looked_slot, pa
 use Rattle.gm_flat.specs.RightCalls.{IsPage, IsPageOf, RightPage}
 use Rattle.gm_flat.specs.RightInstall.{GetBy, RightGet, UserGet}
 use Rattle.gm_flat.specs.RightLives.{AddsOne, FaultHolds, FreeIsRight, GetAdds, IsCached, IsHeld, IsOfFolio, PageAdds, PageAddsBy, RightGetAdds, RightPageAdds, UsesFirst, frame_of, plan_of}
-use Rattle.gm_flat.specs.RightLook.{Route, ToFault, ToFile, ToMmio, ToUser, route_seen}
+use Rattle.gm_flat.specs.RightLook.{Route, ToAgain, ToFault, ToFile, ToMmio, ToUser, route_seen}
 use Rattle.gm_flat.specs.RightOrder.{IsLooked}
 use Rattle.gm_flat.specs.declared.effect.Backing.{Backing}
 use Rattle.gm_flat.specs.declared.effect.Backing.TheVariants.{Folio as InFolio, User}
 use Rattle.gm_flat.specs.declared.effect.Effect.{Effect}
-use Rattle.gm_flat.specs.declared.effect.Effect.TheVariants.{Attr, Cut, File, Move, NoSlot, Shut, Slot, Word}
+use Rattle.gm_flat.specs.declared.effect.Effect.TheVariants.{Attr, Cut, File, Mark, Move, NoSlot, Shut, Slot, Word}
 use Rattle.gm_flat.specs.declared.entry.Entry.{Entry}
 use Rattle.gm_flat.specs.declared.entry.What.{What}
 use Rattle.gm_flat.specs.declared.entry.What.TheVariants.{Change, Free, Get, Install, Left, Look, Miss, Page, Retry, Sample}
@@ -202,8 +202,9 @@ pub effect_keeps : (e : Effect) (f : Flat) → Keeps f (apply e f)
 effect_keeps (Cut F lo hi) f = (refl, λ s c. (c.0, c.1, c.2, cached_cut c.0 c.1 F lo hi f.cache c.2 c.3, c.4))
 effect_keeps (Shut F) f = cond_P (Keeps f) (was_made F f.files) (record f { slots = shut_slots F f.slots; files = shut_files F f.files; cache = without_file F f.cache }) f (refl, λ s c. (c.0, c.1, c.2, cached_shut c.0 c.1 F f.cache c.2 c.3, c.4)) (refl, λ s c. c)
 effect_keeps (Slot id base pages user flags file index) f =
-    let r : SlotView = record { id = id; base = base; pages = pages; user = user; flags = flags; file = file; index = index } in
+    let r : SlotView = record { id = id; base = base; pages = pages; user = user; flags = flags; file = file; index = index; invalid = false } in
     cond_P (Keeps f) (slot_fits r) (record f { slots = r ∷ f.slots }) f (refl, λ s c. c) (refl, λ s c. c)
+effect_keeps (Mark id) f = (refl, λ s c. c)
 effect_keeps (NoSlot id) f = (refl, λ s c. c)
 effect_keeps (Move id base) f = (refl, λ s c. c)
 effect_keeps (Attr span kind) f = (refl, λ s c. c)
@@ -259,6 +260,7 @@ user_holds s b n page (Some r) g e = subst (λ (x : Backing). IsOfFolio s x) g.0
 route_cached : (r : Route) (b : Backing) (n s frames : ℕ) (a : Aim) (l : Seen) (past : List Entry) → GetBy r b n a l past → (0 < n → GetAdds frames (index_in a.page (looked_slot l past)) (get_addition b n l.file (index_in a.page (looked_slot l past)) (flat past).files) (flat past)) → IsOfFolio s b → IsCached s (add (get_addition b n l.file (index_in a.page (looked_slot l past)) (flat past).files) (flat past))
 route_cached ToUser b n s frames a l past g h e = absurd (user_holds s b n a.page (looked_slot l past) g e)
 route_cached ToFile b n s frames a l past g h e = has_cached s b l.file (index_in a.page (looked_slot l past)) (add (get_addition b n l.file (index_in a.page (looked_slot l past)) (flat past).files) (flat past)) (file_get b n frames l.file (index_in a.page (looked_slot l past)) (flat past) g h).1 e
+route_cached ToAgain b n s frames a l past g h e = absurd g
 route_cached ToFault b n s frames a l past g h e = absurd g
 route_cached ToMmio b n s frames a l past g h e = absurd g
 

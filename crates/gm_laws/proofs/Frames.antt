@@ -9,7 +9,7 @@ use Rattle.gm_base.specs.declared.values.Folio.{Folio}
 use Rattle.gm_flat.specs.Attribute.{attr_of}
 use Rattle.gm_flat.specs.Effects.{Addition, add, apply, are_added, free_each, free_one, free_run, shut_files, shut_slots, slot_fits, with_folios, with_run, without_file}
 use Rattle.gm_flat.specs.FlatState.{Flat, FolioState, Triple, cached, is_live, was_made}
-use Rattle.gm_flat.specs.NamedPage.{Named, named}
+use Rattle.gm_flat.specs.NamedPage.{Named, named_aside}
 use Rattle.gm_flat.specs.Replay.{adds, flat, states}
 use Rattle.gm_flat.specs.RightHistory.{Each, Right}
 use Rattle.gm_flat.specs.RightLives.{FreeIsRight, IsCached, frame_of}
@@ -17,7 +17,7 @@ use Rattle.gm_flat.specs.RightTouch.{CanUse}
 use Rattle.gm_flat.specs.declared.effect.Backing.{Backing}
 use Rattle.gm_flat.specs.declared.effect.Backing.TheVariants.{Folio as InFolio, User}
 use Rattle.gm_flat.specs.declared.effect.Effect.{Effect}
-use Rattle.gm_flat.specs.declared.effect.Effect.TheVariants.{Attr, Cut, File, Move, NoSlot, Shut, Slot, Word}
+use Rattle.gm_flat.specs.declared.effect.Effect.TheVariants.{Attr, Cut, File, Mark, Move, NoSlot, Shut, Slot, Word}
 use Rattle.gm_flat.specs.declared.entry.Entry.{Entry}
 use Rattle.gm_flat.specs.declared.entry.What.{What}
 use Rattle.gm_flat.specs.declared.entry.What.TheVariants.{Change, Free, Get, Page, Touch}
@@ -87,8 +87,9 @@ pub effect_cached : (e : Effect) (f : Flat) (K i : ℕ) (fo : Folio) → cached 
 effect_cached (Cut F lo hi) f K i fo = λ h. cached_cut K i F lo hi f.cache fo h
 effect_cached (Shut F) f K i fo = cond_P (λ (x : Flat). cached K i x.cache ≡ Some fo → cached K i f.cache ≡ Some fo) (was_made F f.files) (record f { slots = shut_slots F f.slots; files = shut_files F f.files; cache = without_file F f.cache }) f (λ h. cached_shut K i F f.cache fo h) (λ h. h)
 effect_cached (Slot id base pages user flags file index) f K i fo =
-    let r : SlotView = record { id = id; base = base; pages = pages; user = user; flags = flags; file = file; index = index } in
+    let r : SlotView = record { id = id; base = base; pages = pages; user = user; flags = flags; file = file; index = index; invalid = false } in
     cond_P (λ (x : Flat). cached K i x.cache ≡ Some fo → cached K i f.cache ≡ Some fo) (slot_fits r) (record f { slots = r ∷ f.slots }) f (λ h. h) (λ h. h)
+effect_cached (Mark id) f K i fo = λ h. h
 effect_cached (NoSlot id) f K i fo = λ h. h
 effect_cached (Move id base) f K i fo = λ h. h
 effect_cached (Attr span kind) f K i fo = λ h. h
@@ -138,13 +139,13 @@ cached_frames o [] r = λ F i fo e. absurd (none_is fo e)
 cached_frames o (e ∷ past) r = frames_keep o e.turn e.what e.actor past (lives o past r.1) (counted o past r.1) r.0.may (cached_frames o past r.1)
 
 -- so a touch names its folio's frame
-use_frame : (fo : Folio) (a : Aim) (f : Flat) (g : ℕ) (o : Option Named) → CachedFrames f → named f g ≡ o → CanUse a (InFolio fo) o → frame_of fo.serial f.folios ≡ Some fo.frame
+use_frame : (fo : Folio) (a : Aim) (f : Flat) (g : ℕ) (o : Option Named) → CachedFrames f → named_aside f g ≡ o → CanUse a (InFolio fo) o → frame_of fo.serial f.folios ≡ Some fo.frame
 use_frame fo a f g None h e u = absurd u
 use_frame fo a f g (Some m) h e u = let x = named_folio f g fo (attr_of g f.attrs) (over g f.slots) m e u.1 in h x.0 x.1 fo x.2
 
-touch_frame_by : (b : Backing) (a : Aim) (f : Flat) (g : ℕ) → CachedFrames f → CanUse a b (named f g) → HasItsFrame b f
+touch_frame_by : (b : Backing) (a : Aim) (f : Flat) (g : ℕ) → CachedFrames f → CanUse a b (named_aside f g) → HasItsFrame b f
 touch_frame_by (User u) a f g h c = tt
-touch_frame_by (InFolio fo) a f g h c = use_frame fo a f g (named f g) h refl c
+touch_frame_by (InFolio fo) a f g h c = use_frame fo a f g (named_aside f g) h refl c
 
 touch_frame : (o : Orders) (w : What) (a : Actor) (past : List Entry) → Follows o past → May o w a past → TouchFrames w a past
 touch_frame o (Touch a b level value fill) (Vcpu u) past r m = touch_frame_by b a (flat past) a.page (cached_frames o past r) (touched o u fill value a b level past (good o past r) m).now_named

@@ -8,7 +8,7 @@ use Rattle.gm_flat.specs.FlatState.{Flat}
 use Rattle.gm_flat.specs.Histories.{Bracket, Fault, Faulting, Gotten, Seen, bracket, fault}
 use Rattle.gm_flat.specs.Invalidation.{count, ended, hull, in_hull, stale}
 use Rattle.gm_flat.specs.Mappings.{Mapping, any_holds, covers, fills, flushed, inside, leaves, pending}
-use Rattle.gm_flat.specs.NamedPage.{Named, named}
+use Rattle.gm_flat.specs.NamedPage.{Named, named, named_aside}
 use Rattle.gm_flat.specs.Replay.{flat, flat_at}
 use Rattle.gm_flat.specs.RightLook.{file_of, id_of}
 use Rattle.gm_flat.specs.RightTouch.{CanUse}
@@ -62,9 +62,9 @@ Gives l h past = (named (flat past) h ≡ l.gives h) × KindIs l.kind (l.gives h
 abbrev pub LeafNames : List Entry → Type 0
 LeafNames past = (l : Mapping) (h : ℕ) → Mem l (leaves past) → covers l h ≡ true → Gives l h past
 
--- a fill gives what is named now, and is newer than each change; or its vCPU is outside and flushes before it enters
+-- a fill gives what is named now with marks left aside, and is newer than each change; or its vCPU is outside and flushes before it enters
 abbrev pub FillNames : List Entry → Type 0
-FillNames past = (v h : ℕ) (f : Mapping) → Mem f (fills v past) → covers f h ≡ true → ((named (flat past) h ≡ f.gives h) × (changed h past ≤ f.made)) ⊎ ((inside v past ≡ false) × (pending v past ≡ true))
+FillNames past = (v h : ℕ) (f : Mapping) → Mem f (fills v past) → covers f h ≡ true → ((named_aside (flat past) h ≡ f.gives h) × (changed h past ≤ f.made)) ⊎ ((inside v past ≡ false) × (pending v past ≡ true))
 
 abbrev pub SinceAt : ℕ → ℕ → Named → List Entry → Type 0
 SinceAt p g m past = (ended p past ≡ true) ⊎ ((in_hull g (hull past) ≡ true) ⊎ (named (flat past) g ≡ Some m))

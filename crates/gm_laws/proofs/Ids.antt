@@ -1,7 +1,7 @@
 -- Slots have different ids, so a slot is found again by its id.
 use Rattle.std.proofs.Common.{Bool, List, None, Option, Some, [], ap, arith, cond, eqb, eqb-true, false, inl, inr, refl, subst, sym, true, ℕ, ◌∙◌, ◌∷◌, ◌≡◌, ◌⊎◌}
 use Rattle.std.proofs.lemmas.Bool.Decides.{nat_tests}
-use Rattle.gm_flat.specs.Effects.{dropped, moved, shut_slot, shut_slots}
+use Rattle.gm_flat.specs.Effects.{dropped, marked, moved, shut_slot, shut_slots}
 use Rattle.gm_flat.specs.Replay.{flat_at, slot_by}
 use Rattle.gm_flat.specs.RightLook.{id_of}
 use Rattle.gm_flat.specs.Slots.{lies_over}
@@ -64,7 +64,7 @@ id_moved : (j id base : ℕ) (rs : List SlotView) → with_id j rs ≡ None → 
 id_moved j id base [] h = refl
 id_moved j id base (r ∷ rs) h = go (eqb r.id id) (eqb r.id j) refl h (id_moved j id base rs)
   where
-    go : (t u : Bool) → eqb r.id j ≡ u → cond u (Some r) (with_id j rs) ≡ None → (with_id j rs ≡ None → with_id j (moved id base rs) ≡ None) → with_id j (cond t (record r { base = base } ∷ rs) (r ∷ moved id base rs)) ≡ None
+    go : (t u : Bool) → eqb r.id j ≡ u → cond u (Some r) (with_id j rs) ≡ None → (with_id j rs ≡ None → with_id j (moved id base rs) ≡ None) → with_id j (cond t (record r { base = base; invalid = false } ∷ rs) (r ∷ moved id base rs)) ≡ None
     go t true e h ih = absurd (none_is r (sym h))
     go true false e h ih = rw e h
     go false false e h ih = rw e (ih h)
@@ -73,9 +73,26 @@ pub apart_moved : (id base : ℕ) (rs : List SlotView) → IdsApart rs → IdsAp
 apart_moved id base [] h = h
 apart_moved id base (r ∷ rs) h = go (eqb r.id id) (apart_moved id base rs h.1)
   where
-    go : (t : Bool) → IdsApart (moved id base rs) → IdsApart (cond t (record r { base = base } ∷ rs) (r ∷ moved id base rs))
+    go : (t : Bool) → IdsApart (moved id base rs) → IdsApart (cond t (record r { base = base; invalid = false } ∷ rs) (r ∷ moved id base rs))
     go true ih = h
     go false ih = (id_moved r.id id base rs h.0, ih)
+
+id_marked : (j id : ℕ) (rs : List SlotView) → with_id j rs ≡ None → with_id j (marked id rs) ≡ None
+id_marked j id [] h = refl
+id_marked j id (r ∷ rs) h = go (eqb r.id id) (eqb r.id j) refl h (id_marked j id rs)
+  where
+    go : (t u : Bool) → eqb r.id j ≡ u → cond u (Some r) (with_id j rs) ≡ None → (with_id j rs ≡ None → with_id j (marked id rs) ≡ None) → with_id j (cond t (record r { invalid = true } ∷ rs) (r ∷ marked id rs)) ≡ None
+    go t true e h ih = absurd (none_is r (sym h))
+    go true false e h ih = rw e h
+    go false false e h ih = rw e (ih h)
+
+pub apart_marked : (id : ℕ) (rs : List SlotView) → IdsApart rs → IdsApart (marked id rs)
+apart_marked id [] h = h
+apart_marked id (r ∷ rs) h = go (eqb r.id id) (apart_marked id rs h.1)
+  where
+    go : (t : Bool) → IdsApart (marked id rs) → IdsApart (cond t (record r { invalid = true } ∷ rs) (r ∷ marked id rs))
+    go true ih = h
+    go false ih = (id_marked r.id id rs h.0, ih)
 
 id_shut : (j F : ℕ) (rs : List SlotView) → with_id j rs ≡ None → with_id j (shut_slots F rs) ≡ None
 id_shut j F [] h = refl

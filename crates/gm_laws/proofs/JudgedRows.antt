@@ -9,11 +9,11 @@ use Rattle.gm_base.specs.declared.values.Actor.TheVariants.{Caller, Vcpu}
 use Rattle.gm_flat.specs.Calls.{file_pages}
 use Rattle.gm_flat.specs.Effects.{apply, shut_files, shut_slots, slot_fits, without_file}
 use Rattle.gm_flat.specs.FlatState.{FileState, Flat, in_use, was_made}
-use Rattle.gm_flat.specs.Histories.{Call, bracket, call}
+use Rattle.gm_flat.specs.Histories.{Call, bracket, call, is_mark}
 use Rattle.gm_flat.specs.Locks.{FileLock, Lock, SlotsLock, takes, takes_file, takes_slots}
 use Rattle.gm_flat.specs.Replay.{flat, flat_at}
 use Rattle.gm_flat.specs.declared.effect.Effect.{Effect}
-use Rattle.gm_flat.specs.declared.effect.Effect.TheVariants.{Attr, Cut, File, Move, NoSlot, Shut, Slot, Word}
+use Rattle.gm_flat.specs.declared.effect.Effect.TheVariants.{Attr, Cut, File, Mark, Move, NoSlot, Shut, Slot, Word}
 use Rattle.gm_flat.specs.declared.entry.Entry.{Entry}
 use Rattle.gm_flat.specs.declared.entry.What.{What}
 use Rattle.gm_flat.specs.declared.entry.What.TheVariants.{Change, Judge}
@@ -32,7 +32,7 @@ use Rattle.gm_laws.specs.Ruled.{Follows}
 pub record IsSeen (R : Flat → Flat → Type 0) (lock : Lock) : Type 0 where
   pub at_first : (i : Ioctl) (f : Flat) → takes lock i f ≡ true → R f f
   pub like : (f g h : Flat) → g.attrs ≡ f.attrs → g.files ≡ f.files → R f h → R g h
-  pub change : (e : Effect) (i : Ioctl) (h f k : Flat) → Facts e i h f → New e f → Numbered f.files → R f k → R (apply e f) k ⊎ (takes lock i h ≡ true)
+  pub change : (e : Effect) (i : Ioctl) (h f k : Flat) → Facts e i h f → New e f → Numbered f.files → R f k → R (apply e f) k ⊎ ((is_mark e ≡ false) × (takes lock i h ≡ true))
 
 abbrev pub Sees : (Flat → Flat → Type 0) → Lock → List Entry → Type 0
 Sees R lock past = (c : ℕ) (x : Call) → call c past ≡ Some x → x.made ≡ false → takes lock x.ioctl (flat_at x.judged past) ≡ true → R (flat past) (flat_at x.judged past)
@@ -53,7 +53,7 @@ module _ (R : Flat → Flat → Type 0) (lock : Lock) (seen : IsSeen R lock) whe
             let y = changer e d past (call d past) k refl can in
             elim (seen.change e y.0.ioctl (flat_at y.0.judged past) (flat past) (flat_at x.judged (by t (Caller d) (Change e) ∷ past)) y.2 (new_by o.setup e d past (call d past) k refl can) n (old o t (Change e) (Caller d) past c x k u p made h)) [
               | inl z ↦ z
-              | inr held ↦ absurd (both_ways (takes lock p.0.ioctl (flat_at p.0.judged past)) (k.apart d c y.0 p.0 lock (p.4 made).1 y.1 p.1 held) (sym (takes_same t (Change e) (Caller d) past x p.0 lock (k.call_lt c p.0 p.1) p.2 p.3) ∙ h))
+              | inr held ↦ absurd (both_ways (takes lock p.0.ioctl (flat_at p.0.judged past)) (k.apart d c y.0 p.0 lock ((p.4 made).1 held.0) y.1 p.1 held.1) (sym (takes_same t (Change e) (Caller d) past x p.0 lock (k.call_lt c p.0 p.1) p.2 p.3) ∙ h))
             ]
       ]
 
@@ -84,13 +84,14 @@ module _ (R : Flat → Flat → Type 0) (lock : Lock) (seen : IsSeen R lock) whe
 abbrev pub SameAttrs : Flat → Flat → Type 0
 SameAttrs f h = f.attrs ≡ h.attrs
 
-attrs_or : (e : Effect) (i : Ioctl) (h f k : Flat) → Facts e i h f → SameAttrs f k → SameAttrs (apply e f) k ⊎ (takes_slots i ≡ true)
-attrs_or (Slot id base pages user flags file index) i h f k x s = inr x.0
+attrs_or : (e : Effect) (i : Ioctl) (h f k : Flat) → Facts e i h f → SameAttrs f k → SameAttrs (apply e f) k ⊎ ((is_mark e ≡ false) × (takes_slots i ≡ true))
+attrs_or (Slot id base pages user flags file index) i h f k x s = inr (refl, x.0)
+attrs_or (Mark id) i h f k x s = inl s
 attrs_or (NoSlot id) i h f k x s = inl s
 attrs_or (Move id base) i h f k x s = inl s
-attrs_or (Shut F) i h f k x s = inr x.0
+attrs_or (Shut F) i h f k x s = inr (refl, x.0)
 attrs_or (File file pages block) i h f k x s = inl s
-attrs_or (Attr span kind) i h f k x s = inr x
+attrs_or (Attr span kind) i h f k x s = inr (refl, x)
 attrs_or (Cut F lo hi) i h f k x s = inl s
 attrs_or (Word page word value) i h f k x s = inl s
 
@@ -108,17 +109,18 @@ SameFile F f h = (in_use F f.files ≡ true) × (file_pages F f.files ≡ file_p
 another : (file F n : ℕ) → file ≡ n → F < n → eqb file F ≡ false
 another file F n e h = grind (arith, nat_tests)
 
-file_or : (F : ℕ) (e : Effect) (i : Ioctl) (h f k : Flat) → Facts e i h f → New e f → Numbered f.files → SameFile F f k → SameFile F (apply e f) k ⊎ (takes (FileLock F) i h ≡ true)
+file_or : (F : ℕ) (e : Effect) (i : Ioctl) (h f k : Flat) → Facts e i h f → New e f → Numbered f.files → SameFile F f k → SameFile F (apply e f) k ⊎ ((is_mark e ≡ false) × (takes (FileLock F) i h ≡ true))
 file_or F (Shut K) i h f k x new n s = elim (cases_eq K F) [
-  | inl y ↦ inr (subst (λ (z : ℕ). takes (FileLock z) i h ≡ true) y x.1)
+  | inl y ↦ inr (refl, subst (λ (z : ℕ). takes (FileLock z) i h ≡ true) y x.1)
   | inr y ↦ inl (cond_P (λ (z : Flat). SameFile F z k) (was_made K f.files) (record f { slots = shut_slots K f.slots; files = shut_files K f.files; cache = without_file K f.cache }) f (in_use-shut F K f.files y ∙ s.0, pages_shut F K f.files ∙ s.1) s)
 ]
 file_or F (File file pages block) i h f k x new n s =
     let o : eqb file F ≡ false = another file F (length f.files) new (n F (used_made F f.files s.0)) in
     inl (rw o s)
 file_or F (Slot id base pages user flags file index) i h f k x new n s =
-    let r : SlotView = record { id = id; base = base; pages = pages; user = user; flags = flags; file = file; index = index } in
+    let r : SlotView = record { id = id; base = base; pages = pages; user = user; flags = flags; file = file; index = index; invalid = false } in
     inl (cond_P (λ (z : Flat). SameFile F z k) (slot_fits r) (record f { slots = r ∷ f.slots }) f s s)
+file_or F (Mark id) i h f k x new n s = inl s
 file_or F (NoSlot id) i h f k x new n s = inl s
 file_or F (Move id base) i h f k x new n s = inl s
 file_or F (Attr span kind) i h f k x new n s = inl s

@@ -8,11 +8,11 @@ use Rattle.gm_base.specs.declared.values.Actor.TheVariants.{Caller}
 use Rattle.gm_base.specs.declared.values.Kind.{Kind}
 use Rattle.gm_base.specs.declared.values.Kind.TheVariants.{Private, Shared}
 use Rattle.gm_flat.specs.Attribute.{attr_of}
-use Rattle.gm_flat.specs.FlatState.{Flat}
+use Rattle.gm_flat.specs.FlatState.{Flat, Triple}
 use Rattle.gm_flat.specs.Histories.{Bracket, Call, bracket, call, with_acked}
 use Rattle.gm_flat.specs.Invalidation.{count, ended, hull, in_hull}
 use Rattle.gm_flat.specs.Mappings.{Mapping, any_holds, covered, covers, fills, flushed, inside, leaves, pending}
-use Rattle.gm_flat.specs.NamedPage.{Named, named, named_by}
+use Rattle.gm_flat.specs.NamedPage.{Named, named, named_aside, named_by, unmarked}
 use Rattle.gm_flat.specs.Replay.{flat}
 use Rattle.gm_flat.specs.RightOrder.{Acks, Begins, Ends}
 use Rattle.gm_flat.specs.Roomy.{Roomy}
@@ -21,7 +21,7 @@ use Rattle.gm_flat.specs.declared.effect.Effect.{Effect}
 use Rattle.gm_flat.specs.declared.entry.Entry.{Entry}
 use Rattle.gm_flat.specs.declared.entry.What.TheVariants.{Acked, Begin, Change, End}
 use Rattle.gm_flat.specs.declared.views.SlotView.{SlotView}
-use Rattle.gm_laws.proofs.Flats.{attr_keep, named_keep, over, slot_keep}
+use Rattle.gm_laws.proofs.Flats.{alters, aside_keep, attr_keep, named_keep, on_altered, over, slot_keep}
 use Rattle.gm_laws.proofs.Good.{Good, KindIs, fill_at_more, from_more, looks_more, since_more}
 use Rattle.gm_laws.proofs.Grow.{hull_begin}
 use Rattle.gm_laws.proofs.Ids.{IdsAt}
@@ -159,6 +159,20 @@ IsCovered d g past = (b : Bracket) × (bracket d past ≡ Some b) × (b.acked �
 abbrev pub Safe : Effect → ℕ → List Entry → Type 0
 Safe effect d past = (g : ℕ) → is_on effect (flat past) g ≡ true → IsCovered d g past ⊎ (over g (flat past).slots ≡ None)
 
+-- what an effect alters lies under the bracket of its call, acknowledged or not, or under no slot
+abbrev pub IsUnder : ℕ → ℕ → List Entry → Type 0
+IsUnder d g past = (b : Bracket) × (bracket d past ≡ Some b) × (any_holds b.spans g ≡ true)
+
+abbrev pub SafeAll : Effect → ℕ → List Entry → Type 0
+SafeAll effect d past = (g : ℕ) → alters effect (flat past) g ≡ true → IsUnder d g past ⊎ (over g (flat past).slots ≡ None)
+
+by_altered : {P : Type 0} (d g : ℕ) (effect : Effect) (past : List Entry) → SafeAll effect d past → (alters effect (flat past) g ≡ false → P) → (IsUnder d g past → P) → (over g (flat past).slots ≡ None → P) → P
+by_altered d g effect past m off covered none =
+    elim (cases_Bool (alters effect (flat past) g)) [
+      | inl y ↦ elim (m g y) [ inl z ↦ covered z | inr z ↦ none z ]
+      | inr y ↦ off y
+    ]
+
 by_page : {P : Type 0} (d g : ℕ) (effect : Effect) (past : List Entry) → Safe effect d past → (is_on effect (flat past) g ≡ false → P) → (IsCovered d g past → P) → (over g (flat past).slots ≡ None → P) → P
 by_page d g effect past m off covered none =
     elim (cases_Bool (is_on effect (flat past) g)) [
@@ -166,12 +180,19 @@ by_page d g effect past m off covered none =
       | inr y ↦ off y
     ]
 
-no_name : (f : Flat) (g : ℕ) (kind : Kind) → over g f.slots ≡ None → named_by g f.cache kind (over g f.slots) ≡ None
-no_name f g Shared e = rw e refl
-no_name f g Private e = rw e refl
+no_name : (g : ℕ) (ts : List Triple) (kind : Kind) → named_by g ts kind None ≡ None
+no_name g ts Shared = refl
+no_name g ts Private = refl
 
 unnamed : (f : Flat) (g : ℕ) → over g f.slots ≡ None → named f g ≡ None
-unnamed f g e = no_name f g (attr_of g f.attrs) e
+unnamed f g e = ap (λ (o : Option SlotView). named_by g f.cache (attr_of g f.attrs) (unmarked o)) e ∙ no_name g f.cache (attr_of g f.attrs)
+
+unnamed_aside : (f : Flat) (g : ℕ) → over g f.slots ≡ None → named_aside f g ≡ None
+unnamed_aside f g e = ap (λ (o : Option SlotView). named_by g f.cache (attr_of g f.attrs) o) e ∙ no_name g f.cache (attr_of g f.attrs)
+
+none_aside : (f : Flat) (g : ℕ) (kind : Kind) (o : Option Named) → over g f.slots ≡ None → named_aside f g ≡ o → KindIs kind o → ⊥
+none_aside f g kind None a b k = k
+none_aside f g kind (Some m) a b k = let x = unnamed_aside f g a in cc
 
 none_kind : (f : Flat) (g : ℕ) (kind : Kind) (o : Option Named) → over g f.slots ≡ None → named f g ≡ o → KindIs kind o → ⊥
 none_kind f g kind None a b k = k
@@ -199,8 +220,8 @@ covered_fill n d v h f past g i k w =
       | inr y ↦ y
     ]
 
-pub keep_change : (o : Orders) (t d : ℕ) (effect : Effect) (past : List Entry) → IdsAt past → Good o.setup.callers past → May o (Change effect) (Caller d) past → Safe effect d past → Good o.setup.callers (by t (Caller d) (Change effect) ∷ past)
-keep_change o t d effect past ids g may m =
+pub keep_change : (o : Orders) (t d : ℕ) (effect : Effect) (past : List Entry) → IdsAt past → Good o.setup.callers past → May o (Change effect) (Caller d) past → Safe effect d past → SafeAll effect d past → Good o.setup.callers (by t (Caller d) (Change effect) ∷ past)
+keep_change o t d effect past ids g may m n =
     record {
       count_is = g.count_is;
       hull_none = g.hull_none;
@@ -211,18 +232,18 @@ keep_change o t d effect past ids g may m =
       old_fill = g.old_fill;
       is_flushed = g.is_flushed;
       fill_in = λ v f i. ((g.fill_in v f i).0, fill_at_more (by t (Caller d) (Change effect)) past f (g.fill_in v f i).1);
-      leaf_names = λ l h i k. by_page d h effect past m
+      leaf_names = λ l h i k. by_altered d h effect past n
           (λ off. (named_keep effect (flat past) h off ∙ (g.leaf_names l h i k).0, (g.leaf_names l h i k).1))
-          (λ w. absurd (both_ways (any_holds w.0.spans h) (g.no_leaf d h w.0 l w.1 i k) w.3))
+          (λ w. absurd (both_ways (any_holds w.0.spans h) (g.no_leaf d h w.0 l w.1 i k) w.2))
           (λ e. absurd (none_kind (flat past) h l.kind (l.gives h) e (g.leaf_names l h i k).0 (g.leaf_names l h i k).1));
       fill_names = λ v h f i k. by_page d h effect past m
           (λ off. elim (g.fill_names v h f i k) [
-            | inl y ↦ inl (named_keep effect (flat past) h off ∙ y.0, rw off y.1)
+            | inl y ↦ inl (aside_keep effect (flat past) h off ∙ y.0, rw off y.1)
             | inr y ↦ inr y
           ])
           (λ w. inr (covered_fill o.setup.callers d v h f past g i k w))
           (λ e. elim (g.fill_names v h f i k) [
-            | inl y ↦ absurd (none_kind (flat past) h f.kind (f.gives h) e y.0 ((g.fill_in v f i).1.2 h k))
+            | inl y ↦ absurd (none_aside (flat past) h f.kind (f.gives h) e y.0 ((g.fill_in v f i).1.2 h k))
             | inr y ↦ inr y
           ]);
       since = λ p q x le e. elim (cases_lt (length past) p) [
@@ -231,9 +252,9 @@ keep_change o t d effect past ids g may m =
           | inl y ↦ inl y
           | inr y ↦ elim y [
             | inl z ↦ inr (inl z)
-            | inr z ↦ by_page d q effect past m
+            | inr z ↦ by_altered d q effect past n
                 (λ off. inr (inr (named_keep effect (flat past) q off ∙ z)))
-                (λ w. inr (inl (g.in_hull_of d q w.0 w.1 w.3)))
+                (λ w. inr (inl (g.in_hull_of d q w.0 w.1 w.2)))
                 (λ e. absurd (none_some (flat past) q x e z))
           ]
         ]
@@ -244,9 +265,9 @@ keep_change o t d effect past ids g may m =
           | inl y ↦ inl y
           | inr y ↦ elim y [
             | inl z ↦ inr (inl z)
-            | inr z ↦ by_page d q effect past m
-                (λ off. inr (inr (slot_keep effect (flat past) q off ∙ z.0, attr_keep effect (flat past) q off ∙ (z.1 ∙ ap (λ (y : Flat). attr_of q y.attrs) (sym (flat_at_keep p (by t (Caller d) (Change effect)) past ge))))))
-                (λ w. inr (inl (g.in_hull_of d q w.0 w.1 w.3)))
+            | inr z ↦ by_altered d q effect past n
+                (λ off. inr (inr (slot_keep effect (flat past) q off ∙ z.0, attr_keep effect (flat past) q (on_altered effect (flat past) q off) ∙ (z.1 ∙ ap (λ (y : Flat). attr_of q y.attrs) (sym (flat_at_keep p (by t (Caller d) (Change effect)) past ge))))))
+                (λ w. inr (inl (g.in_hull_of d q w.0 w.1 w.2)))
                 (λ e. absurd (none_row (flat past) q x e z.0))
           ]
         ]

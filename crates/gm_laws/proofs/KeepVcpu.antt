@@ -17,7 +17,7 @@ use Rattle.gm_flat.specs.FlatState.{Flat}
 use Rattle.gm_flat.specs.Histories.{Bracket, Fault, Faulting, NoFault, bracket, fault}
 use Rattle.gm_flat.specs.Invalidation.{ended, hull, hull_meets, in_hull, stale}
 use Rattle.gm_flat.specs.Mappings.{Mapping, any_holds, block_of, can_write, covered, covers, fill_if, fills, first_serving, flushed, leaf_by, leaves, off_extent, serves}
-use Rattle.gm_flat.specs.NamedPage.{Named, named}
+use Rattle.gm_flat.specs.NamedPage.{Named, named, named_aside}
 use Rattle.gm_flat.specs.Replay.{flat, flat_at}
 use Rattle.gm_flat.specs.RightInstall.{Installs, Names}
 use Rattle.gm_flat.specs.RightLevel.{IsConsecutive, IsFrame, IsUserPage, LevelIs}
@@ -25,7 +25,7 @@ use Rattle.gm_flat.specs.RightTouch.{CanUse}
 use Rattle.gm_flat.specs.declared.effect.Backing.{Backing}
 use Rattle.gm_flat.specs.declared.entry.Entry.{Entry}
 use Rattle.gm_flat.specs.declared.entry.What.TheVariants.{Install, Touch}
-use Rattle.gm_laws.proofs.Flats.{named_kind}
+use Rattle.gm_laws.proofs.Flats.{named_is_aside, named_kind}
 use Rattle.gm_laws.proofs.Good.{FaultOk, FillAt, Gives, Good, InHull, KindIs, Since, fill_at_more, from_more, looks_more, since_more}
 use Rattle.gm_laws.proofs.Grow.{ended-mono}
 use Rattle.gm_laws.proofs.Ids.{IdsAt}
@@ -264,6 +264,11 @@ fill_new : (e : Entry) (past : List Entry) (f : Mapping) → IsNewFill f past �
 fill_new e past f x =
     (let y = x.0 in omega arith, (λ h. ap (λ (fl : Flat). named fl h) (flat_at_keep f.made e past (let y = x.0 in omega arith) ∙ (ap (λ (k : ℕ). flat_at k past) x.0 ∙ flat_at_all past)) ∙ x.1 h), λ h k. (x.2 h k).0)
 
+-- what gives a page is named there with marks left aside
+gives_aside : (kind : Kind) (f : Flat) (h : ℕ) (o : Option Named) → KindIs kind o → named f h ≡ o → named_aside f h ≡ o
+gives_aside kind f h None k e = absurd k
+gives_aside kind f h (Some m) k e = named_is_aside f h m e
+
 touch_in : (past : List Entry) (v : ℕ) (f : Mapping) (fl len : ℕ) → fl ≤ len → f.made ≡ len → fl ≤ f.made
 touch_in past v f fl len h e = omega arith
 
@@ -288,7 +293,7 @@ keep_touch o t u fill a b level value past fl ids g m =
       leaf_names = g.leaf_names;
       fill_names = λ v h f i k. elim (touch_fill o u v fill a b level value past f g m i) [
         | inl old ↦ g.fill_names v h f old k
-        | inr new ↦ inl (new.1 h, let y : f.made ≡ length past = new.0 in rw y (changed-le h past))
+        | inr new ↦ inl (gives_aside f.kind (flat past) h (f.gives h) (new.2 h k).0 (new.1 h), let y : f.made ≡ length past = new.0 in rw y (changed-le h past))
       ];
       since = since_more (by t (Vcpu u) (Touch a b level value fill)) past (λ q x y. y) g.since;
       looks = looks_more (by t (Vcpu u) (Touch a b level value fill)) past (refl, refl) g.looks;

@@ -5,6 +5,7 @@ mod Ids
 pub mod Good
 mod Routes
 mod Adds
+mod Aside
 pub mod Grow
 mod Keep
 mod KeepVcpu
@@ -34,6 +35,8 @@ pub mod WrongBodies
 pub mod Fronts
 pub mod Parts
 pub mod MoveAndDeletionRuled
+pub mod MarkedSlotRuled
+mod Marks
 pub mod PopulationAndCloseRuled
 pub mod OneReadPlays
 pub mod FlushPendingPlays

@@ -1,6 +1,7 @@
 -- Each entry keeps what the locks keep.
-use Rattle.std.proofs.Common.{◌<◌, Bool, List, None, Option, Some, ap, arith, cond, eqb, eqb-true, false, inl, inr, length, ne_eqb, refl, subst, suc, sym, true, ℕ, ◌∙◌, ◌∷◌, ◌≡◌, ◌⊎◌}
+use Rattle.std.proofs.Common.{◌&&◌, ◌<◌, Bool, List, None, Option, Some, ap, arith, cond, eqb, eqb-true, false, inl, inr, length, ne_eqb, not, refl, subst, suc, sym, true, ℕ, ◌∙◌, ◌∷◌, ◌≡◌, ◌⊎◌}
 use Rattle.std.proofs.lemmas.Bool.{both_ways, cases_Bool, cases_lt, eqb-false}
+use Rattle.std.proofs.lemmas.Bool.Decides.{nat_tests}
 use Rattle.gm_base.specs.Extent.{Extent}
 use Rattle.gm_base.specs.Scripts.{Orders}
 use Rattle.gm_base.specs.declared.calls.Ioctl.{Ioctl}
@@ -9,22 +10,23 @@ use Rattle.gm_base.specs.declared.values.Actor.TheVariants.{Caller, Vcpu}
 use Rattle.gm_base.specs.declared.values.Setup.{Setup}
 use Rattle.gm_flat.specs.Calls.{Bracketed, plan}
 use Rattle.gm_flat.specs.FlatState.{FileState, Flat, in_use}
-use Rattle.gm_flat.specs.Histories.{Bracket, Call, bracket, call, with_change, with_page}
+use Rattle.gm_flat.specs.Histories.{Bracket, Call, bracket, call, is_mark, with_change, with_page}
 use Rattle.gm_flat.specs.Locks.{FileLock, Lock, SlotsLock, takes, takes_slots}
 use Rattle.gm_flat.specs.Replay.{flat, flat_at}
-use Rattle.gm_flat.specs.RightCalls.{RightBegin, RightChange}
+use Rattle.gm_flat.specs.RightCalls.{IsChange, RightBegin, RightChange}
 use Rattle.gm_flat.specs.RightLives.{plan_of}
-use Rattle.gm_flat.specs.RightOrder.{Changes, Judges}
+use Rattle.gm_flat.specs.RightOrder.{Changes, IsDueBy, Judges}
 use Rattle.gm_flat.specs.declared.effect.Effect.{Effect}
 use Rattle.gm_flat.specs.declared.entry.Entry.{Entry}
 use Rattle.gm_flat.specs.declared.entry.What.{What}
 use Rattle.gm_flat.specs.declared.entry.What.TheVariants.{Acked, Answer, Begin, Change, End, Judge, Page}
 use Rattle.gm_flat.specs.declared.views.SlotView.{SlotView}
+use Rattle.gm_laws.proofs.Aside.{aside}
 use Rattle.gm_laws.proofs.Grow.{same_state}
 use Rattle.gm_laws.proofs.Ids.{IdsApart, IdsAt, MemSlot}
 use Rattle.gm_laws.proofs.KeepCaller.{acked_bracket, new_bracket, opened, shut_bracket}
 use Rattle.gm_laws.proofs.Kit.{by, cond_is, flat_at_all, flat_at_here, flat_at_keep, none_is, some_same}
-use Rattle.gm_laws.proofs.Locks.{Apart, AtOnce, BoundSame, CallLt, ChangeIn, Facts, FilesAt, IsPlanned, Locks, PlannedBy, SlotFiles, SlotsSame, bound, bound_or, change_in, facts, files_keep, ids_keep, slots_or}
+use Rattle.gm_laws.proofs.Locks.{Apart, AtOnce, BoundSame, CallLt, ChangeIn, Facts, FilesAt, IsPlanned, Locks, MarkIn, PlannedBy, SlotFiles, SlotsSame, bound, bound_or, change_in, facts, files_keep, ids_keep, mark_in, marker, slots_or}
 use Rattle.gm_laws.specs.May.{May}
 
 -- no other call in progress holds a lock that the call needs
@@ -40,11 +42,15 @@ free_judge o c i past m d x lock e h =
 
 abbrev pub CanChange : Setup → Effect → List Entry → Option Call → Option Bracket → Type 0
 CanChange s e past None b = ⊥
-CanChange s e past (Some x) b = (x.made ≡ false) × ChangeIn s e past x b
+CanChange s e past (Some x) b = (x.made ≡ false) × (((is_mark e ≡ false) × ChangeIn s e past x b) ⊎ MarkIn s e past x b)
 
-pub can_change : (s : Setup) (e : Effect) (past : List Entry) (x : Option Call) (b : Option Bracket) → Changes s x b past × RightChange s e x past → CanChange s e past x b
+pub can_change : (s : Setup) (e : Effect) (past : List Entry) (x : Option Call) (b : Option Bracket) → Changes s e x b past × RightChange s e x past → CanChange s e past x b
 can_change s e past None b m = absurd m.0
-can_change s e past (Some x) b m = (m.0.0, change_in s e past x b (plan_of s x past) refl m.0.1 m.1)
+can_change s e past (Some x) b m = (m.0.0, by_mark (is_mark e) refl m.0.1 m.1)
+  where
+    by_mark : (t : Bool) → is_mark e ≡ t → IsDueBy t (length past) x.judged (plan_of s x past) b → IsChange t e (plan_of s x past) → ((is_mark e ≡ false) × ChangeIn s e past x b) ⊎ MarkIn s e past x b
+    by_mark true k due c = inr (mark_in s e past x b (plan_of s x past) refl due c)
+    by_mark false k due c = inl (k, change_in s e past x b (plan_of s x past) refl due c)
 
 abbrev pub is_judge : What → Bool
 is_judge (Judge i) = true
@@ -52,7 +58,7 @@ is_judge _ = false
 
 -- where a call in progress comes from
 abbrev pub NotOwn : What → Actor → ℕ → Type 0
-NotOwn (Change e) (Caller d) c = d ≡ c → ⊥
+NotOwn (Change e) (Caller d) c = is_mark e ≡ false → d ≡ c → ⊥
 NotOwn _ a c = Unit {0}
 
 abbrev pub NewCall : What → Actor → ℕ → Call → List Entry → Type 0
@@ -62,15 +68,18 @@ NewCall _ a c x past = ⊥
 abbrev pub OldCall : What → Actor → ℕ → Call → List Entry → Type 0
 OldCall w a c x past = (y : Call) × (call c past ≡ Some y) × (y.judged ≡ x.judged) × (y.ioctl ≡ x.ioctl) × (x.made ≡ false → (y.made ≡ false) × NotOwn w a c)
 
-made_is : (d c : ℕ) (x : Call) (o : Option Call) → cond (eqb d c) (with_change o) o ≡ Some x → (y : Call) × (o ≡ Some y) × (y.judged ≡ x.judged) × (y.ioctl ≡ x.ioctl) × (x.made ≡ false → (y.made ≡ false) × (d ≡ c → ⊥))
-made_is d c x None e = elim (cond_is (eqb d c) None None (Some x) e) [ inl y ↦ absurd (cc (y.1)) | inr y ↦ absurd (cc (y.1)) ]
-made_is d c x (Some y) e =
-    elim (cond_is (eqb d c) (Some (record y { made = true })) (Some y) (Some x) e) [
+made_is : (d c : ℕ) (k : Bool) (x : Call) (o : Option Call) → cond (eqb d c && not k) (with_change o) o ≡ Some x → (y : Call) × (o ≡ Some y) × (y.judged ≡ x.judged) × (y.ioctl ≡ x.ioctl) × (x.made ≡ false → (y.made ≡ false) × (k ≡ false → d ≡ c → ⊥))
+made_is d c k x None e = elim (cond_is (eqb d c && not k) None None (Some x) e) [ inl y ↦ absurd (cc (y.1)) | inr y ↦ absurd (cc (y.1)) ]
+made_is d c k x (Some y) e =
+    elim (cond_is (eqb d c && not k) (Some (record y { made = true })) (Some y) (Some x) e) [
       | inl z ↦ let s : record y { made = true } ≡ x = some_same (record y { made = true }) x z.1 in
           (y, refl, ap (λ (q : Call). q.judged) s, ap (λ (q : Call). q.ioctl) s, λ m. absurd (both_ways x.made m (sym (ap (λ (q : Call). q.made) s))))
       | inr z ↦ let s : y ≡ x = some_same y x z.1 in
-          (y, refl, ap (λ (q : Call). q.judged) s, ap (λ (q : Call). q.ioctl) s, λ m. (ap (λ (q : Call). q.made) s ∙ m, eqb-false d c z.0))
+          (y, refl, ap (λ (q : Call). q.judged) s, ap (λ (q : Call). q.ioctl) s, λ m. (ap (λ (q : Call). q.made) s ∙ m, λ f h. another d c k z.0 f h))
     ]
+  where
+    another : (d c : ℕ) (k : Bool) → (eqb d c && not k) ≡ false → k ≡ false → d ≡ c → ⊥
+    another d c k e f h = grind (arith, nat_tests)
 
 paged_is : (d c : ℕ) (x : Call) (o : Option Call) → cond (eqb d c) (with_page o) o ≡ Some x → (y : Call) × (o ≡ Some y) × (y.judged ≡ x.judged) × (y.ioctl ≡ x.ioctl) × (x.made ≡ false → (y.made ≡ false) × Unit {0})
 paged_is d c x None e = elim (cond_is (eqb d c) None None (Some x) e) [ inl y ↦ absurd (cc (y.1)) | inr y ↦ absurd (cc (y.1)) ]
@@ -95,7 +104,7 @@ inverted t (Judge i) (Caller d) past c x e =
 inverted t (Judge i) (Vcpu v) past c x e = inr (old_same (Judge i) (Vcpu v) c x past tt e)
 inverted t (Page i fo n) (Caller d) past c x e = inr (paged_is d c x (call c past) e)
 inverted t (Page i fo n) (Vcpu v) past c x e = inr (old_same (Page i fo n) (Vcpu v) c x past tt e)
-inverted t (Change k) (Caller d) past c x e = inr (made_is d c x (call c past) e)
+inverted t (Change k) (Caller d) past c x e = inr (made_is d c (is_mark k) x (call c past) e)
 inverted t (Change k) (Vcpu v) past c x e = inr (old_same (Change k) (Vcpu v) c x past tt e)
 inverted t (Answer r) (Caller d) past c x e =
     elim (cond_is (eqb d c) None (call c past) (Some x) e) [
@@ -179,15 +188,15 @@ apart_keep o t w a past k m = λ c d x y lock ne ec ed h.
 -- what a Change does: its call and its facts
 pub changer : {s : Setup} (e : Effect) (d : ℕ) (past : List Entry) (o : Option Call) → Locks s past → call d past ≡ o → CanChange s e past o (bracket d past) → (y : Call) × (call d past ≡ Some y) × Facts e y.ioctl (flat_at y.judged past) (flat past)
 changer {s} e d past None k c m = absurd m
-changer {s} e d past (Some y) k c m = (y, c, facts s e d y past (bracket d past) k c m.0 m.1)
+changer {s} e d past (Some y) k c m = (y, c, elim m.1 [ inl x ↦ facts s e d y past (bracket d past) k c m.0 x.1 | inr x ↦ marker s e y past (bracket d past) x ])
 
-slots_old : {s : Setup} (t : ℕ) (w : What) (a : Actor) (past : List Entry) (c : ℕ) (x : Call) → Locks s past → (flat (by t a w ∷ past)).slots ≡ (flat past).slots → OldCall w a c x past → x.made ≡ false → takes_slots x.ioctl ≡ true → (flat (by t a w ∷ past)).slots ≡ (flat_at x.judged (by t a w ∷ past)).slots
+slots_old : {s : Setup} (t : ℕ) (w : What) (a : Actor) (past : List Entry) (c : ℕ) (x : Call) → Locks s past → aside (flat (by t a w ∷ past)).slots ≡ aside (flat past).slots → OldCall w a c x past → x.made ≡ false → takes_slots x.ioctl ≡ true → aside (flat (by t a w ∷ past)).slots ≡ aside (flat_at x.judged (by t a w ∷ past)).slots
 slots_old t w a past c x k same p m h =
-    same ∙ (k.slots_same c p.0 p.1 (p.4 m).0 (ap takes_slots p.3 ∙ h) ∙ ap (λ (f : Flat). f.slots) (sym (then_same t w a past x p.0 (k.call_lt c p.0 p.1) p.2)))
+    same ∙ (k.slots_same c p.0 p.1 (p.4 m).0 (ap takes_slots p.3 ∙ h) ∙ ap (λ (f : Flat). aside f.slots) (sym (then_same t w a past x p.0 (k.call_lt c p.0 p.1) p.2)))
 
-bound_old : {s : Setup} (t : ℕ) (w : What) (a : Actor) (past : List Entry) (c F : ℕ) (x : Call) → Locks s past → bound F (flat (by t a w ∷ past)).slots ≡ bound F (flat past).slots → OldCall w a c x past → x.made ≡ false → takes (FileLock F) x.ioctl (flat_at x.judged (by t a w ∷ past)) ≡ true → bound F (flat (by t a w ∷ past)).slots ≡ bound F (flat_at x.judged (by t a w ∷ past)).slots
+bound_old : {s : Setup} (t : ℕ) (w : What) (a : Actor) (past : List Entry) (c F : ℕ) (x : Call) → Locks s past → bound F (aside (flat (by t a w ∷ past)).slots) ≡ bound F (aside (flat past).slots) → OldCall w a c x past → x.made ≡ false → takes (FileLock F) x.ioctl (flat_at x.judged (by t a w ∷ past)) ≡ true → bound F (aside (flat (by t a w ∷ past)).slots) ≡ bound F (aside (flat_at x.judged (by t a w ∷ past)).slots)
 bound_old t w a past c F x k same p m h =
-    same ∙ (k.bound_same c F p.0 p.1 (p.4 m).0 (sym (takes_same t w a past x p.0 (FileLock F) (k.call_lt c p.0 p.1) p.2 p.3) ∙ h) ∙ ap (λ (f : Flat). bound F f.slots) (sym (then_same t w a past x p.0 (k.call_lt c p.0 p.1) p.2)))
+    same ∙ (k.bound_same c F p.0 p.1 (p.4 m).0 (sym (takes_same t w a past x p.0 (FileLock F) (k.call_lt c p.0 p.1) p.2 p.3) ∙ h) ∙ ap (λ (f : Flat). bound F (aside f.slots)) (sym (then_same t w a past x p.0 (k.call_lt c p.0 p.1) p.2)))
 
 slots_change : {s : Setup} (t : ℕ) (e : Effect) (d : ℕ) (past : List Entry) → Locks s past → CanChange s e past (call d past) (bracket d past) → SlotsSame (by t (Caller d) (Change e) ∷ past)
 slots_change t e d past k m c x ec made h =
@@ -197,7 +206,7 @@ slots_change t e d past k m c x ec made h =
           let y = changer e d past (call d past) k refl m in
           elim (slots_or e y.0.ioctl (flat_at y.0.judged past) (flat past) y.2) [
             | inl same ↦ slots_old t (Change e) (Caller d) past c x k same p made h
-            | inr lock ↦ absurd (both_ways (takes_slots p.0.ioctl) (k.apart d c y.0 p.0 SlotsLock (p.4 made).1 y.1 p.1 lock) (ap takes_slots p.3 ∙ h))
+            | inr lock ↦ absurd (both_ways (takes_slots p.0.ioctl) (k.apart d c y.0 p.0 SlotsLock ((p.4 made).1 lock.0) y.1 p.1 lock.1) (ap takes_slots p.3 ∙ h))
           ]
     ]
 
@@ -207,13 +216,13 @@ slots_keep o t (Change e) (Vcpu v) past k m = absurd m
 slots_keep o t (Judge i) (Vcpu v) past k m = absurd m
 slots_keep o t (Judge i) (Caller d) past k m = λ c x ec made h.
     elim (inverted t (Judge i) (Caller d) past c x ec) [
-      | inl p ↦ ap (λ (f : Flat). f.slots) (sym (new_then t (Judge i) (Caller d) past x p.1))
+      | inl p ↦ ap (λ (f : Flat). aside f.slots) (sym (new_then t (Judge i) (Caller d) past x p.1))
       | inr p ↦ slots_old t (Judge i) (Caller d) past c x k refl p made h
     ]
 slots_keep o t w a past k m = λ c x ec made h.
     elim (inverted t w a past c x ec) [
       | inl p ↦ absurd (no_new w a c x past refl p)
-      | inr p ↦ slots_old t w a past c x k (same_state t w a past refl).0 p made h
+      | inr p ↦ slots_old t w a past c x k (ap aside (same_state t w a past refl).0) p made h
     ]
 
 bound_change : {s : Setup} (t : ℕ) (e : Effect) (d : ℕ) (past : List Entry) → Locks s past → CanChange s e past (call d past) (bracket d past) → BoundSame (by t (Caller d) (Change e) ∷ past)
@@ -224,7 +233,7 @@ bound_change t e d past k m c F x ec made h =
           let y = changer e d past (call d past) k refl m in
           elim (bound_or F e y.0.ioctl (flat_at y.0.judged past) (flat past) y.2) [
             | inl same ↦ bound_old t (Change e) (Caller d) past c F x k same p made h
-            | inr lock ↦ absurd (both_ways (takes (FileLock F) p.0.ioctl (flat_at p.0.judged past)) (k.apart d c y.0 p.0 (FileLock F) (p.4 made).1 y.1 p.1 lock) (sym (takes_same t (Change e) (Caller d) past x p.0 (FileLock F) (k.call_lt c p.0 p.1) p.2 p.3) ∙ h))
+            | inr lock ↦ absurd (both_ways (takes (FileLock F) p.0.ioctl (flat_at p.0.judged past)) (k.apart d c y.0 p.0 (FileLock F) ((p.4 made).1 lock.0) y.1 p.1 lock.1) (sym (takes_same t (Change e) (Caller d) past x p.0 (FileLock F) (k.call_lt c p.0 p.1) p.2 p.3) ∙ h))
           ]
     ]
 
@@ -234,13 +243,13 @@ bound_keep o t (Change e) (Vcpu v) past k m = absurd m
 bound_keep o t (Judge i) (Vcpu v) past k m = absurd m
 bound_keep o t (Judge i) (Caller d) past k m = λ c F x ec made h.
     elim (inverted t (Judge i) (Caller d) past c x ec) [
-      | inl p ↦ ap (λ (f : Flat). bound F f.slots) (sym (new_then t (Judge i) (Caller d) past x p.1))
+      | inl p ↦ ap (λ (f : Flat). bound F (aside f.slots)) (sym (new_then t (Judge i) (Caller d) past x p.1))
       | inr p ↦ bound_old t (Judge i) (Caller d) past c F x k refl p made h
     ]
 bound_keep o t w a past k m = λ c F x ec made h.
     elim (inverted t w a past c x ec) [
       | inl p ↦ absurd (no_new w a c x past refl p)
-      | inr p ↦ bound_old t w a past c F x k (ap (λ (rs : List SlotView). bound F rs) (same_state t w a past refl).0) p made h
+      | inr p ↦ bound_old t w a past c F x k (ap (λ (rs : List SlotView). bound F (aside rs)) (same_state t w a past refl).0) p made h
     ]
 
 files_at_keep : (o : Orders) (t : ℕ) (w : What) (a : Actor) (past : List Entry) → Locks o.setup past → May o w a past → FilesAt (by t a w ∷ past)
@@ -297,11 +306,11 @@ planned_old : (s : Setup) (t : ℕ) (w : What) (a : Actor) (past : List Entry) (
 planned_old s t w a past b x y lt e f p =
     (p.0, ap (λ (z : Flat). plan s x.ioctl z) (then_same t w a past x y lt e) ∙ (ap (λ (i : Ioctl). plan s i (flat_at y.judged past)) (sym f) ∙ p.1))
 
-made_some : (t : Bool) (o : Option Call) (x : Call) → o ≡ Some x → (y : Call) × (cond t (with_change o) o ≡ Some y) × (x.judged ≡ y.judged) × (x.ioctl ≡ y.ioctl)
+pub made_some : (t : Bool) (o : Option Call) (x : Call) → o ≡ Some x → (y : Call) × (cond t (with_change o) o ≡ Some y) × (x.judged ≡ y.judged) × (x.ioctl ≡ y.ioctl)
 made_some true o x e = (record x { made = true }, ap with_change e, refl, refl)
 made_some false o x e = (x, e, refl, refl)
 
-paged_some : (t : Bool) (o : Option Call) (x : Call) → o ≡ Some x → (y : Call) × (cond t (with_page o) o ≡ Some y) × (x.judged ≡ y.judged) × (x.ioctl ≡ y.ioctl)
+pub paged_some : (t : Bool) (o : Option Call) (x : Call) → o ≡ Some x → (y : Call) × (cond t (with_page o) o ≡ Some y) × (x.judged ≡ y.judged) × (x.ioctl ≡ y.ioctl)
 paged_some true o x e = (record x { pages = suc x.pages }, ap with_page e, refl, refl)
 paged_some false o x e = (x, e, refl, refl)
 
@@ -335,7 +344,7 @@ planned_keep o t End (Caller d) past k m = λ c b e.
     (p.0, p.1, planned_old o.setup t End (Caller d) past b p.0 p.0 (k.call_lt c p.0 p.1) refl refl p.2)
 planned_keep o t (Change f) (Caller d) past k m = λ c b e.
     let p = k.planned c b e in
-    let x = made_some (eqb d c) (call c past) p.0 p.1 in
+    let x = made_some (eqb d c && not (is_mark f)) (call c past) p.0 p.1 in
     (x.0, x.1, planned_old o.setup t (Change f) (Caller d) past b x.0 p.0 (k.call_lt c p.0 p.1) x.2 x.3 p.2)
 planned_keep o t (Page i fo n) (Caller d) past k m = λ c b e.
     let p = k.planned c b e in

@@ -1,5 +1,5 @@
 -- The worked row «mixed block»: a leaf of 2 MiB, and one of 4 KiB after an attribute in the block has changed. It follows the tables.
-use Rattle.std.proofs.Common.{◌&&◌, ◌+◌, ◌-◌, ◌<◌, Bool, List, None, Option, Some, [], ap, arith, cond, inl, inr, leb, ltb, refl, subst, sym, true, ℕ, ◌∙◌, ◌∷◌, ◌≡◌, ◌≤◌}
+use Rattle.std.proofs.Common.{false, ◌&&◌, ◌+◌, ◌-◌, ◌<◌, Bool, List, None, Option, Some, [], ap, arith, cond, inl, inr, leb, ltb, refl, subst, sym, true, ℕ, ◌∙◌, ◌∷◌, ◌≡◌, ◌≤◌}
 use Rattle.std.proofs.lemmas.Bool.Decides.{nat_tests}
 use Rattle.gm_base.specs.declared.calls.Ioctl.TheVariants.{Attrs, Create, Region2}
 use Rattle.gm_base.specs.declared.values.Actor.TheVariants.{Caller, Vcpu}
@@ -198,7 +198,7 @@ pub follows18 : Follows mixed_block_orders past18
 follows18 = (first mixed_block_orders entry18 past17 (omega arith) (inr (omega arith)) refl (quiet past17 refl) ((tt, (refl, omega arith), λ h. (refl, inl (record { pages = refl; index_is = refl; frame = record { block = (record { aligned = refl; below = omega arith; free = λ k h. refl }); lowest = λ q k. absurd (none_lower q k) }; takes = record { in_file = (refl, omega arith); none_cached = λ k h. refl; has_frames = (0, (record { aligned = refl; below = omega arith; free = λ k h. refl })) } })))) refl, follows17)
 
 abbrev row : SlotView
-row = record { id = 0; base = 0; pages = 512; user = 0; flags = 4; file = Some 0; index = 0 }
+row = record { id = 0; base = 0; pages = 512; user = 0; flags = 4; file = Some 0; index = 0; invalid = false }
 
 first_block : (k : ℕ) → k < 512 → (leb 0 (0 + k) && ltb (0 + k) (0 + 512)) ≡ true
 first_block k h = grind (arith, nat_tests)
@@ -211,7 +211,7 @@ block_frame k h =
     let t : (leb 0 (0 + k) && ltb (0 + k) (0 + 512)) ≡ true = first_block k h in
     let c : cached 0 ((0 + (0 + k)) - 0) (flat past18).cache ≡ Some (record { serial = 0 + k; frame = 0 + k }) = ap (λ (i : ℕ). cached 0 i (flat past18).cache) (same_index k) ∙ with_run_at 512 k 0 0 0 0 [] h in
     subst (λ (o : Option Named). IsFrame (0 + k) o)
-    (sym (name_private (flat past18) (0 + k) 0 row (record { serial = 0 + k; frame = 0 + k }) (ap (λ (z : Bool). cond z (Some row) None) t) refl (ap (λ (z : Bool). cond z Private Shared) t) c))
+    (sym (name_private (flat past18) (0 + k) 0 row (record { serial = 0 + k; frame = 0 + k }) (ap (λ (z : Bool). cond z (Some row) None) t) refl refl (ap (λ (z : Bool). cond z Private Shared) t) c))
     refl
 
 abbrev entry19 : Entry

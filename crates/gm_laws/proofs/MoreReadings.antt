@@ -19,7 +19,7 @@ use Rattle.gm_flat.specs.Replay.{adds, flat, states}
 use Rattle.gm_flat.specs.RightOrder.{Ends}
 use Rattle.gm_flat.specs.Window.{is_on, own_change, own_step, settled, settled_step}
 use Rattle.gm_flat.specs.declared.effect.Effect.{Effect}
-use Rattle.gm_flat.specs.declared.effect.Effect.TheVariants.{Attr, Cut, File, Move, NoSlot, Shut, Slot, Word}
+use Rattle.gm_flat.specs.declared.effect.Effect.TheVariants.{Attr, Cut, File, Mark, Move, NoSlot, Shut, Slot, Word}
 use Rattle.gm_flat.specs.declared.entry.Entry.{Entry}
 use Rattle.gm_flat.specs.declared.entry.What.{What}
 use Rattle.gm_flat.specs.declared.entry.What.TheVariants.{Answer, Begin, Change, End, Flush, Get, Judge, Page, Touch}
@@ -44,15 +44,15 @@ take_less zero xs = refl
 take_less (suc n) [] = refl
 take_less (suc n) (x ∷ xs) = ap (λ (ys : List _). x ∷ ys) (take_less n xs)
 
-fill_once : (t : Bool) (n : ℕ) (a : Aim) (level : Level) (f : Flat) (ms all : List Mapping) → ms ≡ take 64 all → fill_if t n a level f ms ≡ take 64 (cond t (fill_at n a level f ∷ []) [] ++ all)
-fill_once true n a level f ms all e = ap (λ (xs : List Mapping). take 64 (fill_at n a level f ∷ xs)) e ∙ ap (λ (xs : List Mapping). fill_at n a level f ∷ xs) (take_less 63 all)
+fill_once : (t : Bool) (n : ℕ) (a : Aim) (level : Level) (f : Flat) (ms all : List Mapping) → ms ≡ take 256 all → fill_if t n a level f ms ≡ take 256 (cond t (fill_at n a level f ∷ []) [] ++ all)
+fill_once true n a level f ms all e = ap (λ (xs : List Mapping). take 256 (fill_at n a level f ∷ xs)) e ∙ ap (λ (xs : List Mapping). fill_at n a level f ∷ xs) (take_less 255 all)
 fill_once false n a level f ms all e = e
 
-flush_once : (t : Bool) (ms all : List Mapping) → ms ≡ take 64 all → cond t [] ms ≡ take 64 (cond t [] all)
+flush_once : (t : Bool) (ms all : List Mapping) → ms ≡ take 256 all → cond t [] ms ≡ take 256 (cond t [] all)
 flush_once true ms all e = refl
 flush_once false ms all e = e
 
-fills_step_is : (v : ℕ) (w : What) (a : Actor) (past : List Entry) (ms all : List Mapping) → ms ≡ take 64 all → fills_step v w a past ms ≡ take 64 (all_step v w a (filled_by v w a past) all)
+fills_step_is : (v : ℕ) (w : What) (a : Actor) (past : List Entry) (ms all : List Mapping) → ms ≡ take 256 all → fills_step v w a past ms ≡ take 256 (all_step v w a (filled_by v w a past) all)
 fills_step_is v Flush a past ms all e = flush_once (is_vcpu v a) ms all e
 fills_step_is v (Touch access b level value fill) a past ms all e = fill_once (is_vcpu v a && eqb fill (length past)) (length past) access level (flat past) ms all e
 fills_step_is v _ a past ms all e = e
@@ -221,6 +221,7 @@ ended_is_end n (e ∷ past) = go (ended_is_end n past)
 set_kind : (page : ℕ) (e : Effect) (f : Flat) → sets_by page e ≡ true → IsKindBy (attr_of page (apply e f).attrs) e
 set_kind page (Attr span kind) f h = rw h refl
 set_kind page (Slot id base pages user flags file index) f h = false_true h
+set_kind page (Mark id) f h = false_true h
 set_kind page (NoSlot id) f h = false_true h
 set_kind page (Move id base) f h = false_true h
 set_kind page (Cut F lo hi) f h = false_true h
@@ -235,8 +236,9 @@ sets_yes page t _ a past h = false_true h
 set_not : (page : ℕ) (e : Effect) (f : Flat) → sets_by page e ≡ false → attr_of page (apply e f).attrs ≡ attr_of page f.attrs
 set_not page (Attr span kind) f h = rw h refl
 set_not page (Slot id base pages user flags file index) f h =
-    let r : SlotView = record { id = id; base = base; pages = pages; user = user; flags = flags; file = file; index = index } in
+    let r : SlotView = record { id = id; base = base; pages = pages; user = user; flags = flags; file = file; index = index; invalid = false } in
     cond_P (λ (x : Flat). attr_of page x.attrs ≡ attr_of page f.attrs) (slot_fits r) (record f { slots = r ∷ f.slots }) f refl refl
+set_not page (Mark id) f h = refl
 set_not page (NoSlot id) f h = refl
 set_not page (Move id base) f h = refl
 set_not page (Cut F lo hi) f h = refl

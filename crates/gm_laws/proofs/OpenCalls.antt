@@ -1,17 +1,18 @@
 -- A call that is still in progress when its turn ends goes on: its row is a change in a bracket, or pages.
-use Rattle.std.proofs.Common.{◌++◌, ◌+◌, ◌<◌, Bool, List, None, Some, [], ap, append_assoc, arith, cond, eq-eqb, eqb, false, inl, inr, length, refl, subst, suc, sym, true, ℕ, ◌∙◌, ◌∷◌, ◌≡◌, ◌⊎◌, ◌||◌}
-use Rattle.std.proofs.lemmas.Bool.{both_ways, cond-false, cond-true, or_parts, or_right}
+use Rattle.std.proofs.Common.{◌&&◌, ◌++◌, ◌+◌, ◌<◌, Bool, List, None, Option, Some, [], ap, append_assoc, arith, cond, eq-eqb, eqb, false, inl, inr, length, not, refl, subst, suc, sym, true, ℕ, ◌∙◌, ◌∷◌, ◌≡◌, ◌⊎◌, ◌||◌}
+use Rattle.std.proofs.lemmas.Bool.{and_parts, both_ways, cond-false, cond-true, or_parts, or_right}
 use Rattle.gm_base.specs.Scripts.{Orders}
 use Rattle.gm_base.specs.declared.calls.Ioctl.{Ioctl}
 use Rattle.gm_base.specs.declared.values.Actor.{Actor}
 use Rattle.gm_base.specs.declared.values.Actor.TheVariants.{Caller, Vcpu}
 use Rattle.gm_base.specs.declared.values.Setup.{Setup}
-use Rattle.gm_flat.specs.Calls.{Bracketed, Paged, Plan, Reads, Refused, Same, Short, plan}
+use Rattle.gm_flat.specs.Calls.{Bracketed, Paged, Plan, Reads, Refused, Same, Short, mark_of, plan}
 use Rattle.gm_flat.specs.FlatState.{Flat}
-use Rattle.gm_flat.specs.Histories.{Call, before_turn, call, newest_turn, same_turn}
+use Rattle.gm_flat.specs.Histories.{Call, before_turn, call, is_mark, newest_turn, same_turn}
 use Rattle.gm_flat.specs.Replay.{flat, flat_at}
 use Rattle.gm_flat.specs.RightLives.{plan_of}
-use Rattle.gm_flat.specs.RightOrder.{IsTogether, IsWhole, are_frees, is_caller_row, is_first_row, is_row}
+use Rattle.gm_flat.specs.RightOrder.{IsTogether, IsWhole, are_frees, begins_by, is_begin_row, is_caller_row, is_first_row, is_marking, is_row}
+use Rattle.gm_flat.specs.declared.effect.Effect.{Effect}
 use Rattle.gm_flat.specs.declared.entry.Entry.{Entry}
 use Rattle.gm_flat.specs.declared.entry.What.{What}
 use Rattle.gm_flat.specs.declared.entry.What.TheVariants.{Acked, Answer, Begin, Change, End, Free, Gone, Judge, Page}
@@ -28,8 +29,9 @@ abbrev is_answer : What → Bool
 is_answer (Answer reply) = true
 is_answer _ = false
 
+-- a change that isn't a mark
 abbrev is_change : What → Bool
-is_change (Change effect) = true
+is_change (Change effect) = not (is_mark effect)
 is_change _ = false
 
 abbrev any_what : (What → Bool) → List What → Bool
@@ -66,20 +68,37 @@ first_judge (Bracketed r s) [] e = refl
 first_judge (Paged p) [] e = refl
 first_judge _ ws e = false_true e
 
-later_judge : (s : Setup) (w : What) (ws : List What) (f : Flat) → is_caller_row s (w ∷ ws) f ≡ true → any_what is_judge ws ≡ false
-later_judge s (Judge i) ws f e = first_judge (plan s i f) ws e
-later_judge s (Begin x) [] f e = refl
-later_judge s Acked [] f e = refl
-later_judge s (Change x) ws f e = frees_judge ws e
-later_judge s End (Answer x ∷ []) f e = refl
-later_judge s (Page i fo n) [] f e = refl
-later_judge s (Answer x) [] f e = refl
-later_judge s Gone [] f e = refl
-later_judge s _ _ f e = false_true e
+marking_judge : (m : Option Effect) (ws : List What) → is_marking m ws ≡ true → any_what is_judge ws ≡ false
+marking_judge None [] e = refl
+marking_judge (Some m) (Change f ∷ []) e = refl
+marking_judge _ ws e = false_true e
 
-judge_row : (s : Setup) (i : Ioctl) (before ws : List What) (f : Flat) → is_caller_row s (before ++ Judge i ∷ ws) f ≡ true → (before ≡ []) × (is_first_row (plan s i f) ws ≡ true)
-judge_row s i [] ws f e = (refl, e)
-judge_row s i (b ∷ bs) ws f e = absurd (both_ways (any_what is_judge (bs ++ Judge i ∷ ws)) (later_judge s b (bs ++ Judge i ∷ ws) f e) (any_mid bs i ws))
+begin_judge : (p : Plan) (ws : List What) → is_begin_row p ws ≡ true → any_what is_judge ws ≡ false
+begin_judge (Bracketed f spans) ws e = marking_judge (mark_of f) ws e
+begin_judge _ ws e = false_true e
+
+begins_judge : (s : Setup) (x : Option Call) (ws : List What) (before : List Entry) → begins_by s x ws before ≡ true → any_what is_judge ws ≡ false
+begins_judge s None ws before e = false_true e
+begins_judge s (Some x) ws before e = begin_judge (plan_of s x before) ws e
+
+later_judge : (s : Setup) (c : ℕ) (w : What) (ws : List What) (before : List Entry) → is_caller_row s c (w ∷ ws) before ≡ true → any_what is_judge ws ≡ false
+later_judge s c (Judge i) ws before e = first_judge (plan s i (flat before)) ws e
+later_judge s c (Begin x) ws before e = begins_judge s (call c before) ws before e
+later_judge s c Acked [] before e = refl
+later_judge s c (Change x) ws before e = frees_judge ws (and_parts (not (is_mark x)) (are_frees ws) e).1
+later_judge s c End (Answer x ∷ []) before e = refl
+later_judge s c (Page i fo n) [] before e = refl
+later_judge s c (Answer x) [] before e = refl
+later_judge s c Gone [] before e = refl
+later_judge s c _ _ before e = false_true e
+
+judge_row : (s : Setup) (c : ℕ) (i : Ioctl) (front ws : List What) (before : List Entry) → is_caller_row s c (front ++ Judge i ∷ ws) before ≡ true → (front ≡ []) × (is_first_row (plan s i (flat before)) ws ≡ true)
+judge_row s c i [] ws before e = (refl, e)
+judge_row s c i (b ∷ bs) ws before e = absurd (both_ways (any_what is_judge (bs ++ Judge i ∷ ws)) (later_judge s c b (bs ++ Judge i ∷ ws) before e) (any_mid bs i ws))
+
+short_row : (r : Effect) (n : ℕ) (f : Effect) (ws : List What) → is_first_row (Short r n) (Change f ∷ ws) ≡ true → not (is_mark f) ≡ true
+short_row r n f (Answer x ∷ []) e = e
+short_row r n f _ e = false_true e
 
 -- a row with no Answer yet is one that goes on, or has just begun
 first_front : (p : Plan) (after rest : List What) → is_first_row p (after ++ rest) ≡ true → any_what is_answer after ≡ false → GoesOn p ⊎ (any_what is_change after ≡ false → after ≡ [])
@@ -89,7 +108,7 @@ first_front p [] rest e a = inr (λ m. refl)
 first_front (Refused r) (Answer x ∷ ws) rest e a = absurd (both_ways true a refl)
 first_front (Same r) (Answer x ∷ ws) rest e a = absurd (both_ways true a refl)
 first_front (Reads r w) (Answer x ∷ ws) rest e a = absurd (both_ways true a refl)
-first_front (Short r n) (Change f ∷ ws) rest e a = inr (λ m. absurd (both_ways true m refl))
+first_front (Short r n) (Change f ∷ ws) rest e a = inr (λ m. absurd (both_ways (not (is_mark f)) (or_parts (not (is_mark f)) (any_what is_change ws) m).0 (short_row r n f (ws ++ rest) e)))
 first_front _ (w ∷ ws) rest e a = false_true e
 
 first_whole : (p : Plan) (after : List What) → is_first_row p after ≡ true → any_what is_answer after ≡ false → GoesOn p
@@ -120,18 +139,18 @@ abbrev pub OpenOr : Setup → List Entry → Type 0
 OpenOr s past = (c : ℕ) (x : Call) → call c past ≡ Some x → GoesOn (plan_of s x past) ⊎ JudgedNow c x past
 
 -- the row of the newest turn, as its caller's
-row_of : (s : Setup) (c : ℕ) (i : Ioctl) (a : Actor) (ws before after rest : List What) (f : Flat) → a ≡ Caller c → ws ≡ before ++ Judge i ∷ after → is_row s a (ws ++ rest) f ≡ true → is_caller_row s (before ++ Judge i ∷ (after ++ rest)) f ≡ true
-row_of s c i a ws before after rest f own split h =
-    let x : is_row s (Caller c) (ws ++ rest) f ≡ true = subst (λ (b : Actor). is_row s b (ws ++ rest) f ≡ true) own h in
-    let y : is_caller_row s ((before ++ Judge i ∷ after) ++ rest) f ≡ true = subst (λ (zs : List What). is_caller_row s (zs ++ rest) f ≡ true) split x in
-    subst (λ (zs : List What). is_caller_row s zs f ≡ true) (append_assoc before (Judge i ∷ after) rest) y
+row_of : (s : Setup) (c : ℕ) (i : Ioctl) (a : Actor) (ws front after rest : List What) (before : List Entry) → a ≡ Caller c → ws ≡ front ++ Judge i ∷ after → is_row s a (ws ++ rest) before ≡ true → is_caller_row s c (front ++ Judge i ∷ (after ++ rest)) before ≡ true
+row_of s c i a ws front after rest before own split h =
+    let x : is_row s (Caller c) (ws ++ rest) before ≡ true = subst (λ (b : Actor). is_row s b (ws ++ rest) before ≡ true) own h in
+    let y : is_caller_row s c ((front ++ Judge i ∷ after) ++ rest) before ≡ true = subst (λ (zs : List What). is_caller_row s c (zs ++ rest) before ≡ true) split x in
+    subst (λ (zs : List What). is_caller_row s c zs before ≡ true) (append_assoc front (Judge i ∷ after) rest) y
 
 pub judged_front : (s : Setup) (c : ℕ) (x : Call) (past : List Entry) → IsBegun s past → JudgedNow c x past → GoesOn (plan_of s x past) ⊎ (x.made ≡ false → length past ≡ suc x.judged)
 judged_front s c x [] b j = absurd j.own
 judged_front s c x (e ∷ past) b j =
-    let f = flat (before_turn (e ∷ past)) in
-    let r = judge_row s x.ioctl j.before (j.after ++ b.0) f (row_of s c x.ioctl e.actor (newest_turn (e ∷ past)) j.before j.after b.0 f j.own j.split b.1) in
-    elim (first_front (plan s x.ioctl f) j.after b.0 r.1 j.unanswered) [
+    let p = before_turn (e ∷ past) in
+    let r = judge_row s c x.ioctl j.before (j.after ++ b.0) p (row_of s c x.ioctl e.actor (newest_turn (e ∷ past)) j.before j.after b.0 p j.own j.split b.1) in
+    elim (first_front (plan s x.ioctl (flat p)) j.after b.0 r.1 j.unanswered) [
       | inl g ↦ inl (subst (λ (h : Flat). GoesOn (plan s x.ioctl h)) (sym (j.start r.0)) g)
       | inr n ↦ inr (λ made. right_after (length (e ∷ past)) (length j.after) x.judged j.count (ap (λ (ws : List What). length ws) (n (j.unchanged made))))
     ]
@@ -142,10 +161,10 @@ judged_front s c x (e ∷ past) b j =
 pub judged_whole : (s : Setup) (c : ℕ) (x : Call) (past : List Entry) → IsWhole s past → JudgedNow c x past → GoesOn (plan_of s x past)
 judged_whole s c x [] w j = absurd j.own
 judged_whole s c x (e ∷ past) w j =
-    let f = flat (before_turn (e ∷ past)) in
-    let own : is_row s (Caller c) (newest_turn (e ∷ past)) f ≡ true = subst (λ (b : Actor). is_row s b (newest_turn (e ∷ past)) f ≡ true) j.own w in
-    let r = judge_row s x.ioctl j.before j.after f (subst (λ (zs : List What). is_caller_row s zs f ≡ true) j.split own) in
-    subst (λ (h : Flat). GoesOn (plan s x.ioctl h)) (sym (j.start r.0)) (first_whole (plan s x.ioctl f) j.after r.1 j.unanswered)
+    let p = before_turn (e ∷ past) in
+    let own : is_row s (Caller c) (newest_turn (e ∷ past)) p ≡ true = subst (λ (b : Actor). is_row s b (newest_turn (e ∷ past)) p ≡ true) j.own w in
+    let r = judge_row s c x.ioctl j.before j.after p (subst (λ (zs : List What). is_caller_row s c zs p ≡ true) j.split own) in
+    subst (λ (h : Flat). GoesOn (plan s x.ioctl h)) (sym (j.start r.0)) (first_whole (plan s x.ioctl (flat p)) j.after r.1 j.unanswered)
 
 -- a Judge begins one
 newest_some : (d : Entry) (p : List Entry) → newest_turn (d ∷ p) ≡ [] → ⊥
@@ -197,7 +216,7 @@ not_answer t (Answer r) c x past e = absurd (none_is x (sym (cond-true (eqb c c)
 not_answer t w c x past e = refl
 
 not_change : (w : What) (c : ℕ) → NotOwn w (Caller c) c → is_change w ≡ false
-not_change (Change e) c n = absurd (n refl)
+not_change (Change e) c n = by_test (is_mark e) (λ y. ap not y) (λ k. absurd (n k refl))
 not_change w c n = refl
 
 more_now : (t : ℕ) (w : What) (a : Actor) (c : ℕ) (x : Call) (past : List Entry) → a ≡ Caller c → same_turn (by t a w) past ≡ true → call c (by t a w ∷ past) ≡ Some x → (y : Call) → y.judged < length past → y.judged ≡ x.judged → y.ioctl ≡ x.ioctl → (x.made ≡ false → (y.made ≡ false) × NotOwn w a c) → JudgedNow c y past → JudgedNow c x (by t a w ∷ past)

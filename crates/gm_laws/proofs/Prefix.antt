@@ -1,26 +1,27 @@
 -- In a right history a Change that cuts, and a Retry, begin their turn.
-use Rattle.std.proofs.Common.{◌++◌, ◌<◌, Bool, List, None, Option, Some, [], ap, append-nil, append_assoc, arith, cond, eqb, false, inl, inr, refl, subst, sym, true, ℕ, ◌∙◌, ◌∷◌, ◌≡◌}
-use Rattle.std.proofs.lemmas.Bool.{both_ways, cond-true}
+use Rattle.std.proofs.Common.{◌&&◌, ◌++◌, ◌<◌, Bool, List, None, Option, Some, [], ap, append-nil, append_assoc, arith, cond, eqb, false, inl, inr, not, refl, subst, sym, true, ℕ, ◌∙◌, ◌∷◌, ◌≡◌}
+use Rattle.std.proofs.lemmas.Bool.{and_parts, both_ways, cond-true}
 use Rattle.std.proofs.lemmas.Bool.Decides.{nat_tests}
 use Rattle.gm_base.specs.Scripts.{Orders}
 use Rattle.gm_base.specs.declared.calls.Ioctl.{Ioctl}
 use Rattle.gm_base.specs.declared.values.Actor.{Actor}
 use Rattle.gm_base.specs.declared.values.Actor.TheVariants.{Caller, Vcpu}
 use Rattle.gm_base.specs.declared.values.Setup.{Setup}
-use Rattle.gm_flat.specs.Calls.{Bracketed, Paged, Plan, Reads, Refused, Same, Short, plan}
+use Rattle.gm_flat.specs.Calls.{Bracketed, Paged, Plan, Reads, Refused, Same, Short, mark_of, plan}
 use Rattle.gm_flat.specs.FlatState.{Flat}
-use Rattle.gm_flat.specs.Histories.{Bracket, Call, before_turn, bracket, call, newest_turn, same_turn}
+use Rattle.gm_flat.specs.Histories.{Bracket, Call, before_turn, bracket, call, is_mark, newest_turn, same_turn}
 use Rattle.gm_flat.specs.Replay.{flat, flat_at}
 use Rattle.gm_flat.specs.RightCalls.{RightCalls}
-use Rattle.gm_flat.specs.RightOrder.{IsTogether, IsWhole, RightOrder, StepIs, are_frees, is_caller_row, is_first_row, is_row, is_vcpu_row}
+use Rattle.gm_flat.specs.RightLives.{plan_of}
+use Rattle.gm_flat.specs.RightOrder.{IsTogether, IsWhole, RightOrder, StepIs, are_frees, begins_by, is_begin_row, is_caller_row, is_first_row, is_marking, is_row, is_vcpu_row}
 use Rattle.gm_flat.specs.declared.effect.Effect.{Effect}
-use Rattle.gm_flat.specs.declared.effect.Effect.TheVariants.{Attr, Cut, File, Move, NoSlot, Shut, Slot, Word}
+use Rattle.gm_flat.specs.declared.effect.Effect.TheVariants.{Attr, Cut, File, Mark, Move, NoSlot, Shut, Slot, Word}
 use Rattle.gm_flat.specs.declared.entry.Entry.{Entry}
 use Rattle.gm_flat.specs.declared.entry.What.{What}
 use Rattle.gm_flat.specs.declared.entry.What.TheVariants.{Acked, Answer, Begin, Change, End, Enter, Flush, Free, Get, Gone, Install, Judge, Left, Look, Miss, Page, Retry, Sample, Touch}
 use Rattle.gm_laws.proofs.Fates.{rest}
 use Rattle.gm_laws.proofs.Kit.{by, by_test, none_is}
-use Rattle.gm_laws.proofs.Locks.{ChangeIn, Locks}
+use Rattle.gm_laws.proofs.Locks.{ChangeIn, Locks, MarkIn}
 use Rattle.gm_laws.proofs.LocksKeep.{CanChange, can_change}
 use Rattle.gm_laws.proofs.Plans.{Fits, fits}
 use Rattle.gm_laws.proofs.Rows.{false_true}
@@ -67,20 +68,45 @@ first_quiet (Bracketed r s) i [] e = refl
 first_quiet (Paged p) i [] e = refl
 first_quiet _ i ws e = false_true e
 
-caller_quiet : (s : Setup) (ws : List What) (f : Flat) → is_caller_row s ws f ≡ true → tail_quiet ws ≡ true
-caller_quiet s (Judge i ∷ ws) f e = first_quiet (plan s i f) i ws e
-caller_quiet s (Begin x ∷ []) f e = refl
-caller_quiet s (Acked ∷ []) f e = refl
-caller_quiet s (Change x ∷ ws) f e = frees_quiet ws e
-caller_quiet s (End ∷ (Answer x ∷ [])) f e = refl
-caller_quiet s (Page i fo n ∷ []) f e = refl
-caller_quiet s (Answer x ∷ []) f e = refl
-caller_quiet s (Gone ∷ []) f e = refl
-caller_quiet s _ f e = false_true e
+-- a mark cuts nothing
+mark_cuts : (e : Effect) → is_mark e ≡ true → cuts e ≡ false
+mark_cuts (Mark id) h = refl
+mark_cuts (Slot id base pages user flags file index) h = false_true h
+mark_cuts (NoSlot id) h = false_true h
+mark_cuts (Move id base) h = false_true h
+mark_cuts (Attr span kind) h = false_true h
+mark_cuts (Cut F lo hi) h = false_true h
+mark_cuts (Shut F) h = false_true h
+mark_cuts (File file pages block) h = false_true h
+mark_cuts (Word page word value) h = false_true h
 
-pub row_quiet : (s : Setup) (a : Actor) (ws : List What) (f : Flat) → is_row s a ws f ≡ true → tail_quiet ws ≡ true
-row_quiet s (Vcpu v) ws f e = vcpu_quiet ws e
-row_quiet s (Caller c) ws f e = caller_quiet s ws f e
+marking_quiet : (m : Option Effect) (ws : List What) → is_marking m ws ≡ true → none_loose ws ≡ true
+marking_quiet None [] e = refl
+marking_quiet (Some m) (Change f ∷ []) e = let c : cuts f ≡ false = mark_cuts f e in rw c refl
+marking_quiet _ ws e = false_true e
+
+begin_quiet : (p : Plan) (ws : List What) → is_begin_row p ws ≡ true → none_loose ws ≡ true
+begin_quiet (Bracketed f spans) ws e = marking_quiet (mark_of f) ws e
+begin_quiet _ ws e = false_true e
+
+begins_quiet : (s : Setup) (x : Option Call) (ws : List What) (before : List Entry) → begins_by s x ws before ≡ true → none_loose ws ≡ true
+begins_quiet s None ws before e = false_true e
+begins_quiet s (Some x) ws before e = begin_quiet (plan_of s x before) ws e
+
+caller_quiet : (s : Setup) (c : ℕ) (ws : List What) (before : List Entry) → is_caller_row s c ws before ≡ true → tail_quiet ws ≡ true
+caller_quiet s c (Judge i ∷ ws) before e = first_quiet (plan s i (flat before)) i ws e
+caller_quiet s c (Begin x ∷ ws) before e = begins_quiet s (call c before) ws before e
+caller_quiet s c (Acked ∷ []) before e = refl
+caller_quiet s c (Change x ∷ ws) before e = frees_quiet ws (and_parts (not (is_mark x)) (are_frees ws) e).1
+caller_quiet s c (End ∷ (Answer x ∷ [])) before e = refl
+caller_quiet s c (Page i fo n ∷ []) before e = refl
+caller_quiet s c (Answer x ∷ []) before e = refl
+caller_quiet s c (Gone ∷ []) before e = refl
+caller_quiet s c _ before e = false_true e
+
+pub row_quiet : (s : Setup) (a : Actor) (ws : List What) (before : List Entry) → is_row s a ws before ≡ true → tail_quiet ws ≡ true
+row_quiet s (Vcpu v) ws before e = vcpu_quiet ws e
+row_quiet s (Caller c) ws before e = caller_quiet s c ws before e
 
 quiet_here : (t x : Bool) → cond t false x ≡ true → (t ≡ false) × (x ≡ true)
 quiet_here true x e = false_true e
@@ -136,11 +162,11 @@ last_judge d (e ∷ p) h = go (same_turn d (e ∷ p)) h
 -- each front of a turn begins a row
 abbrev pub IsBegun : Setup → List Entry → Type 0
 IsBegun s [] = Unit {0}
-IsBegun s (e ∷ past) = (rest : List What) × (is_row s e.actor (newest_turn (e ∷ past) ++ rest) (flat (before_turn (e ∷ past))) ≡ true)
+IsBegun s (e ∷ past) = (rest : List What) × (is_row s e.actor (newest_turn (e ∷ past) ++ rest) (before_turn (e ∷ past)) ≡ true)
 
 pub whole_begun : (s : Setup) (past : List Entry) → IsWhole s past → IsBegun s past
 whole_begun s [] h = tt
-whole_begun s (e ∷ past) h = ([], subst (λ (ws : List What). is_row s e.actor ws (flat (before_turn (e ∷ past))) ≡ true) (sym (append-nil (newest_turn (e ∷ past)))) h)
+whole_begun s (e ∷ past) h = ([], subst (λ (ws : List What). is_row s e.actor ws (before_turn (e ∷ past)) ≡ true) (sym (append-nil (newest_turn (e ∷ past)))) h)
 
 pub same_row_actor : (d e : Entry) (p : List Entry) → eqb d.turn e.turn ≡ true → IsTogether e (d ∷ p) → d.actor ≡ e.actor
 same_row_actor d e p t (inl x) = x.1
@@ -150,30 +176,31 @@ same_row_actor d e p t (inr x) = absurd (apart d.turn e.turn t x)
     apart a b h k = grind (arith, nat_tests)
 
 abbrev RowOf : Setup → Actor → List What → List What → List Entry → Type 0
-RowOf s a ws rest before = is_row s a (ws ++ rest) (flat before) ≡ true
+RowOf s a ws rest before = is_row s a (ws ++ rest) before ≡ true
 
 -- the row that a turn with one more entry begins
-same_begun : (s : Setup) (e d : Entry) (p : List Entry) (rest : List What) → same_turn e (d ∷ p) ≡ true → is_row s e.actor (newest_turn (e ∷ (d ∷ p)) ++ rest) (flat (before_turn (e ∷ (d ∷ p)))) ≡ true → is_row s e.actor (newest_turn (d ∷ p) ++ e.what ∷ rest) (flat (before_turn (d ∷ p))) ≡ true
+same_begun : (s : Setup) (e d : Entry) (p : List Entry) (rest : List What) → same_turn e (d ∷ p) ≡ true → is_row s e.actor (newest_turn (e ∷ (d ∷ p)) ++ rest) (before_turn (e ∷ (d ∷ p))) ≡ true → is_row s e.actor (newest_turn (d ∷ p) ++ e.what ∷ rest) (before_turn (d ∷ p)) ≡ true
 same_begun s e d p rest t h =
     let a : newest_turn (e ∷ (d ∷ p)) ≡ newest_turn (d ∷ p) ++ e.what ∷ [] = cond-true (same_turn e (d ∷ p)) (newest_turn (d ∷ p) ++ e.what ∷ []) (e.what ∷ []) t in
     let b : before_turn (e ∷ (d ∷ p)) ≡ before_turn (d ∷ p) = cond-true (same_turn e (d ∷ p)) (before_turn (d ∷ p)) (d ∷ p) t in
     let c : RowOf s e.actor (newest_turn (d ∷ p) ++ e.what ∷ []) rest (before_turn (d ∷ p)) = subst (λ (q : List Entry). RowOf s e.actor (newest_turn (d ∷ p) ++ e.what ∷ []) rest q) b (subst (λ (ws : List What). RowOf s e.actor ws rest (before_turn (e ∷ (d ∷ p)))) a h) in
-    subst (λ (ws : List What). is_row s e.actor ws (flat (before_turn (d ∷ p))) ≡ true) (append_assoc (newest_turn (d ∷ p)) (e.what ∷ []) rest) c
+    subst (λ (ws : List What). is_row s e.actor ws (before_turn (d ∷ p)) ≡ true) (append_assoc (newest_turn (d ∷ p)) (e.what ∷ []) rest) c
 
 pub begun_back : (o : Orders) (e : Entry) (past : List Entry) → RightOrder o e past → IsBegun o.setup (e ∷ past) → IsBegun o.setup past
 begun_back o e [] r b = tt
 begun_back o e (d ∷ p) r b = by_test (same_turn e (d ∷ p))
-    (λ t. (e.what ∷ b.0, subst (λ (a : Actor). is_row o.setup a (newest_turn (d ∷ p) ++ e.what ∷ b.0) (flat (before_turn (d ∷ p))) ≡ true) (sym (same_row_actor d e p t r.together)) (same_begun o.setup e d p b.0 t b.1)))
+    (λ t. (e.what ∷ b.0, subst (λ (a : Actor). is_row o.setup a (newest_turn (d ∷ p) ++ e.what ∷ b.0) (before_turn (d ∷ p)) ≡ true) (sym (same_row_actor d e p t r.together)) (same_begun o.setup e d p b.0 t b.1)))
     (λ n. whole_begun o.setup (d ∷ p) (r.whole_before n))
 
 pub after_judge : (s : Setup) (e d : Entry) (p : List Entry) → IsBegun s (e ∷ (d ∷ p)) → same_turn e (d ∷ p) ≡ true → loosens e.what ≡ true → IsJudge d.what
-after_judge s e d p b t l = last_judge d p (late_loose (newest_turn (d ∷ p)) e.what b.0 (row_quiet s e.actor (newest_turn (d ∷ p) ++ e.what ∷ b.0) (flat (before_turn (d ∷ p))) (same_begun s e d p b.0 t b.1)) l)
+after_judge s e d p b t l = last_judge d p (late_loose (newest_turn (d ∷ p)) e.what b.0 (row_quiet s e.actor (newest_turn (d ∷ p) ++ e.what ∷ b.0) (before_turn (d ∷ p)) (same_begun s e d p b.0 t b.1)) l)
 
 -- and such a Change isn't made right after its Judge
 short_cut : (e : Effect) (i : Ioctl) (f : Flat) (n : ℕ) → cuts e ≡ true → Fits i f (Short e n) → ⊥
 short_cut (Cut F lo hi) i f n c x = x
 short_cut (Shut F) i f n c x = x
 short_cut (Slot id base pages user flags file index) i f n c x = both_ways false refl c
+short_cut (Mark id) i f n c x = both_ways false refl c
 short_cut (NoSlot id) i f n c x = both_ways false refl c
 short_cut (Move id base) i f n c x = both_ways false refl c
 short_cut (Attr span kind) i f n c x = both_ways false refl c
@@ -189,9 +216,15 @@ no_bracket o c p k e = go (bracket c p) refl
 
 none_change : (s : Setup) (e : Effect) (past : List Entry) (x : Option Call) (b : Option Bracket) → b ≡ None → cuts e ≡ true → CanChange s e past x b → ⊥
 none_change s e past None b q c m = m
-none_change s e past (Some x) b q c m =
-    let y : ChangeIn s e past x None = subst (λ (z : Option Bracket). ChangeIn s e past x z) q m.1 in
-    short_cut e x.ioctl (flat_at x.judged past) y.1.0 c (subst (λ (p : Plan). Fits x.ioctl (flat_at x.judged past) p) y.1.1 (fits s x.ioctl (flat_at x.judged past)))
+none_change s e past (Some x) b q c m = elim m.1 [
+  | inl k ↦ no_short s e past x b q c k.1
+  | inr k ↦ subst (λ (z : Option Bracket). MarkIn s e past x z) q k
+]
+  where
+    no_short : (s : Setup) (e : Effect) (past : List Entry) (x : Call) (b : Option Bracket) → b ≡ None → cuts e ≡ true → ChangeIn s e past x b → ⊥
+    no_short s e past x b q c m =
+        let y : ChangeIn s e past x None = subst (λ (z : Option Bracket). ChangeIn s e past x z) q m in
+        short_cut e x.ioctl (flat_at x.judged past) y.1.0 c (subst (λ (p : Plan). Fits x.ioctl (flat_at x.judged past) p) y.1.1 (fits s x.ioctl (flat_at x.judged past)))
 
 judge_cut : (o : Orders) (t : ℕ) (w : What) (a : Actor) (c : ℕ) (p : List Entry) (e : Effect) → Locks o.setup p → IsJudge w → a ≡ Caller c → StepIs o w a p → cuts e ≡ true → CanChange o.setup e (by t a w ∷ p) (call c (by t a w ∷ p)) (bracket c (by t a w ∷ p)) → ⊥
 judge_cut o t (Judge i) (Caller d) c p e k j same step q m =

@@ -101,7 +101,7 @@ may_install page past NoFault h i = absurd h
 
 may_retry : (past : List Entry) (x : Fault) → HasLooked x → Retries past x → MayRetry past x
 may_retry past (Faulting a m (Some s) (Some l) (Some q)) h i = i
-may_retry past (Faulting a m (Some s) (Some l) None) h i = (i.right_route, i.is_shut)
+may_retry past (Faulting a m (Some s) (Some l) None) h i = elim i [ inl again ↦ inl again | inr shut ↦ inr (shut.right_route, shut.is_shut) ]
 may_retry past (Faulting a m (Some s) None q) h i = absurd h
 may_retry past (Faulting a m None l q) h i = absurd h
 may_retry past NoFault h i = absurd h

@@ -1,12 +1,12 @@
 -- What a route tells of the slot and the attribute that were looked up.
-use Rattle.std.proofs.Common.{None, Option, Some, cond, inl, inr, not, refl, true, ℕ, ◌≡◌}
+use Rattle.std.proofs.Common.{Bool, None, Option, Some, cond, false, inl, inr, not, refl, true, ℕ, ◌≡◌}
 use Rattle.gm_base.specs.Aim.{Aim}
 use Rattle.gm_base.specs.Values.{permits, same_kind}
 use Rattle.gm_base.specs.declared.numbers.TheConstants.{KVM_MEM_READONLY}
 use Rattle.gm_base.specs.declared.values.Kind.{Kind}
 use Rattle.gm_base.specs.declared.values.Kind.TheVariants.{Private, Shared}
 use Rattle.gm_flat.specs.FlatState.{has_flag}
-use Rattle.gm_flat.specs.RightLook.{ToFault, ToFile, ToMmio, ToUser, file_route, private_route, route, route_by, shared_route}
+use Rattle.gm_flat.specs.RightLook.{Route, ToAgain, ToFault, ToFile, ToMmio, ToUser, file_route, is_marked, private_route, route, route_by, shared_route}
 use Rattle.gm_flat.specs.declared.views.SlotView.{SlotView}
 use Rattle.gm_laws.proofs.Kit.{cond_is}
 
@@ -41,8 +41,16 @@ user_by Private Shared a slot e = absurd (cc)
 user_by Shared Private a slot e = absurd (cc)
 user_by Shared Shared a slot e = (refl, refl, shared_user a slot e)
 
+-- a route but the one to look again is of a slot that isn't marked
+past_mark : (t : Bool) (r s : Route) → (ToAgain ≡ s → ⊥) → cond t ToAgain r ≡ s → (t ≡ false) × (r ≡ s)
+past_mark true r s n e = absurd (n e)
+past_mark false r s n e = (refl, e)
+
 pub route_user : (a : Aim) (attr : Kind) (slot : Option SlotView) → route a attr slot ≡ ToUser → (a.kind ≡ Shared) × (attr ≡ Shared) × IsUserRoute a slot
-route_user a attr slot e = user_by a.kind attr a slot e
+route_user a attr slot e = user_by a.kind attr a slot (past_mark (is_marked slot) (cond (same_kind a.kind attr) (route_by a.kind a slot) ToFault) ToUser (λ c. cc) e).1
+
+pub user_open : (a : Aim) (attr : Kind) (slot : Option SlotView) → route a attr slot ≡ ToUser → is_marked slot ≡ false
+user_open a attr slot e = (past_mark (is_marked slot) (cond (same_kind a.kind attr) (route_by a.kind a slot) ToFault) ToUser (λ c. cc) e).0
 
 shared_file : (a : Aim) (slot : Option SlotView) → shared_route a slot ≡ ToFile → ⊥
 shared_file a None e = cc
@@ -73,4 +81,7 @@ file_by Shared Private a slot e = absurd (cc)
 file_by Shared Shared a slot e = absurd (shared_file a slot e)
 
 pub route_file : (a : Aim) (attr : Kind) (slot : Option SlotView) → route a attr slot ≡ ToFile → (a.kind ≡ Private) × (attr ≡ Private) × IsFileRoute slot
-route_file a attr slot e = file_by a.kind attr a slot e
+route_file a attr slot e = file_by a.kind attr a slot (past_mark (is_marked slot) (cond (same_kind a.kind attr) (route_by a.kind a slot) ToFault) ToFile (λ c. cc) e).1
+
+pub file_open : (a : Aim) (attr : Kind) (slot : Option SlotView) → route a attr slot ≡ ToFile → is_marked slot ≡ false
+file_open a attr slot e = (past_mark (is_marked slot) (cond (same_kind a.kind attr) (route_by a.kind a slot) ToFault) ToFile (λ c. cc) e).0

@@ -1,6 +1,6 @@
 -- What helps to show by computing that a concrete history follows the tables.
-use Rattle.std.proofs.Common.{◌+◌, ◌<◌, Bool, List, None, Option, Some, [], ap, arith, cond, eq-eqb, eqb, eqb-true, false, inl, inr, length, refl, subst, suc, sym, true, zero, ℕ, ◌∙◌, ◌∷◌, ◌≡◌, ◌≤◌, ◌⊎◌}
-use Rattle.std.proofs.lemmas.Bool.{both_ways}
+use Rattle.std.proofs.Common.{◌&&◌, ◌+◌, ◌<◌, Bool, List, None, Option, Some, [], ap, arith, cond, eq-eqb, eqb, eqb-true, false, inl, inr, length, not, refl, subst, suc, sym, true, zero, ℕ, ◌∙◌, ◌∷◌, ◌≡◌, ◌≤◌, ◌⊎◌}
+use Rattle.std.proofs.lemmas.Bool.{and_parts, both_ways}
 use Rattle.gm_base.specs.Scripts.{IsOf, Orders}
 use Rattle.gm_base.specs.declared.calls.Ioctl.{Ioctl}
 use Rattle.gm_base.specs.declared.script.Turn.{Turn}
@@ -9,7 +9,7 @@ use Rattle.gm_base.specs.declared.values.Actor.TheVariants.{Caller, Vcpu}
 use Rattle.gm_base.specs.declared.values.Folio.{Folio}
 use Rattle.gm_base.specs.declared.values.Setup.{Setup}
 use Rattle.gm_flat.specs.FlatState.{Triple, is_triple}
-use Rattle.gm_flat.specs.Histories.{Bracket, Call, call, call_step, fault, same_turn}
+use Rattle.gm_flat.specs.Histories.{Bracket, Call, call, call_step, fault, is_mark, same_turn}
 use Rattle.gm_flat.specs.Locks.{WaitsForLock}
 use Rattle.gm_flat.specs.Mappings.{flushed, inside, inside_step}
 use Rattle.gm_flat.specs.Plays.{turn_at}
@@ -47,7 +47,7 @@ further o e past a t s l m =
 -- only actors of the setup are anywhere
 call_by : (c n : ℕ) (w : What) (a : Actor) (s : Setup) (k : ℕ) (o : Option Call) (x : Call) → IsOf s a → ((y : Call) → o ≡ Some y → c < s.callers) → call_step c w a k o ≡ Some x → c < s.callers
 call_by c n (Judge i) (Caller d) s k o x lt ih e = elim (cond_is (eqb d c) _ o (Some x) e) [ inl y ↦ subst (λ (z : ℕ). z < s.callers) (eqb-true d c y.0) lt | inr y ↦ ih x y.1 ]
-call_by c n (Change f) (Caller d) s k o x lt ih e = elim (cond_is (eqb d c) _ o (Some x) e) [ inl y ↦ subst (λ (z : ℕ). z < s.callers) (eqb-true d c y.0) lt | inr y ↦ ih x y.1 ]
+call_by c n (Change f) (Caller d) s k o x lt ih e = elim (cond_is (eqb d c && not (is_mark f)) _ o (Some x) e) [ inl y ↦ subst (λ (z : ℕ). z < s.callers) (eqb-true d c (and_parts (eqb d c) (not (is_mark f)) y.0).0) lt | inr y ↦ ih x y.1 ]
 call_by c n (Page i fo m) (Caller d) s k o x lt ih e = elim (cond_is (eqb d c) _ o (Some x) e) [ inl y ↦ subst (λ (z : ℕ). z < s.callers) (eqb-true d c y.0) lt | inr y ↦ ih x y.1 ]
 call_by c n (Answer r) (Caller d) s k o x lt ih e = elim (cond_is (eqb d c) _ o (Some x) e) [ inl y ↦ subst (λ (z : ℕ). z < s.callers) (eqb-true d c y.0) lt | inr y ↦ ih x y.1 ]
 call_by c n (Judge i) (Vcpu v) s k o x lt ih e = ih x e

@@ -19,6 +19,7 @@ use Rattle.gm_flat.specs.RightLives.{plan_of}
 use Rattle.gm_flat.specs.declared.effect.Effect.TheVariants.{File, Word}
 use Rattle.gm_flat.specs.declared.entry.Entry.{Entry}
 use Rattle.gm_flat.specs.declared.views.SlotView.{SlotView}
+use Rattle.gm_laws.proofs.Aside.{aside, flat_aside, plan_aside, takes_aside}
 use Rattle.gm_laws.proofs.Flats.{of_file, with_id}
 use Rattle.gm_laws.proofs.Fronts.{front_follows}
 use Rattle.gm_laws.proofs.JudgedRows.{SameFile, attrs_seen, file_seen, sees}
@@ -119,16 +120,32 @@ close_same fd f h s g =
     let b : f.slots ≡ h.slots = s.slots refl in
     rw (u, v, b) refl
 
-pub row_same : (s : Setup) (i : Ioctl) (f h : Flat) → SeesLocked i f h → GoesOn (plan s i h) → plan s i f ≡ plan s i h
-row_same s (Create size flags) f h k g = absurd (cond_ends (eqb size 0 || (leb OFFSET_LIMIT size || not (is_paged size))) (Refused Inval) _ (λ g. g) (cond_ends (not (eqb flags 0 || eqb flags BLOCK)) (Refused Inval) (Short (File (length h.files) (page_of size) (eqb flags BLOCK)) (length h.files)) (λ g. g) (λ g. g)) g)
-row_same s (Region2 r) f h k g = region_same s r f h (k.slots refl) g
-row_same s (Attrs address size attributes flags) f h k g = ap (λ (calls : List AttrCall). plan s (Attrs address size attributes flags) (record f { attrs = calls })) (k.attrs refl)
-row_same s (Punch fd offset n) f h k g = punch_same fd offset n f h k g
-row_same s (Allocate fd offset n) f h k g = allocate_same fd offset n f h k g
-row_same s (Close fd) f h k g = close_same fd f h k g
-row_same s (Populate gpa pages user) f h k g = ap (λ (rs : List SlotView). plan s (Populate gpa pages user) (record f { slots = rs })) (k.slots refl)
-row_same s (Poke address value) f h k g = absurd (cond_ends (bad_word s address) (Refused Inval) (Short (Word (page_of address) (word_in address) value) 0) (λ g. g) (λ g. g) g)
-row_same s (Peek address) f h k g = absurd (cond_ends (bad_word s address) (Refused Inval) (Reads (page_of address) (word_in address)) (λ g. g) (λ g. g) g)
+same_row : (s : Setup) (i : Ioctl) (f h : Flat) → SeesLocked i f h → GoesOn (plan s i h) → plan s i f ≡ plan s i h
+same_row s (Create size flags) f h k g = absurd (cond_ends (eqb size 0 || (leb OFFSET_LIMIT size || not (is_paged size))) (Refused Inval) _ (λ g. g) (cond_ends (not (eqb flags 0 || eqb flags BLOCK)) (Refused Inval) (Short (File (length h.files) (page_of size) (eqb flags BLOCK)) (length h.files)) (λ g. g) (λ g. g)) g)
+same_row s (Region2 r) f h k g = region_same s r f h (k.slots refl) g
+same_row s (Attrs address size attributes flags) f h k g = ap (λ (calls : List AttrCall). plan s (Attrs address size attributes flags) (record f { attrs = calls })) (k.attrs refl)
+same_row s (Punch fd offset n) f h k g = punch_same fd offset n f h k g
+same_row s (Allocate fd offset n) f h k g = allocate_same fd offset n f h k g
+same_row s (Close fd) f h k g = close_same fd f h k g
+same_row s (Populate gpa pages user) f h k g = ap (λ (rs : List SlotView). plan s (Populate gpa pages user) (record f { slots = rs })) (k.slots refl)
+same_row s (Poke address value) f h k g = absurd (cond_ends (bad_word s address) (Refused Inval) (Short (Word (page_of address) (word_in address) value) 0) (λ g. g) (λ g. g) g)
+same_row s (Peek address) f h k g = absurd (cond_ends (bad_word s address) (Refused Inval) (Reads (page_of address) (word_in address)) (λ g. g) (λ g. g) g)
+
+-- with marks left aside, at which no row looks
+record SeesAside (i : Ioctl) (f h : Flat) : Type 0 where
+  slots : takes_slots i ≡ true → aside f.slots ≡ aside h.slots
+  attrs : takes_slots i ≡ true → f.attrs ≡ h.attrs
+  file : (F : ℕ) → takes (FileLock F) i h ≡ true → SameFile F f h
+  bound_same : (F : ℕ) → takes (FileLock F) i h ≡ true → bound F (aside f.slots) ≡ bound F (aside h.slots)
+
+row_same : (s : Setup) (i : Ioctl) (f h : Flat) → SeesAside i f h → GoesOn (plan s i h) → plan s i f ≡ plan s i h
+row_same s i f h k g =
+    let there : (F : ℕ) → takes (FileLock F) i (flat_aside h) ≡ true → takes (FileLock F) i h ≡ true = λ F t. sym (takes_aside (FileLock F) i h) ∙ t in
+    sym (plan_aside s i f)
+    ∙ (same_row s i (flat_aside f) (flat_aside h)
+    (record { slots = k.slots; attrs = k.attrs; file = λ F t. k.file F (there F t); bound_same = λ F t. k.bound_same F (there F t) })
+    (subst GoesOn (sym (plan_aside s i h)) g)
+    ∙ plan_aside s i h)
 
 goes_on-same : (o : Orders) (past : List Entry) → Follows o past → (c : ℕ) (x : Call) → call c past ≡ Some x → x.made ≡ false → GoesOn (plan_of o.setup x past) → plan o.setup x.ioctl (flat past) ≡ plan_of o.setup x past
 goes_on-same o past r c x ec made g =

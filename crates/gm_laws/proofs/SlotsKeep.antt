@@ -10,22 +10,22 @@ use Rattle.gm_base.specs.declared.values.Actor.TheVariants.{Caller, Vcpu}
 use Rattle.gm_base.specs.declared.values.Folio.{Folio}
 use Rattle.gm_base.specs.declared.values.Setup.{Setup}
 use Rattle.gm_flat.specs.Calls.{Bracketed, PagePlan, Paged, Plan, Reads, Refused, Same, Short, bound_range, has_memfd, meets_bound, meets_slot, plan}
-use Rattle.gm_flat.specs.Effects.{Addition, add, apply, dropped, get_addition, moved, shut_files, shut_slot, shut_slots, slot_fits, with_run, without_file}
+use Rattle.gm_flat.specs.Effects.{Addition, add, apply, dropped, get_addition, marked, moved, shut_files, shut_slot, shut_slots, slot_fits, with_run, without_file}
 use Rattle.gm_flat.specs.FlatState.{FileState, Flat, Triple, cached, in_use, was_made}
-use Rattle.gm_flat.specs.Histories.{Bracket, Call, Fault, Faulting, NoFault, Seen, bracket, call, fault}
+use Rattle.gm_flat.specs.Histories.{Bracket, Call, Fault, Faulting, NoFault, Seen, bracket, call, fault, is_mark}
 use Rattle.gm_flat.specs.Locks.{FileLock, takes, takes_file}
 use Rattle.gm_flat.specs.Replay.{adds, flat, flat_at, get_adds, index_in, looked_slot, page_adds, states}
 use Rattle.gm_flat.specs.RightCalls.{IsPage, RightPage}
 use Rattle.gm_flat.specs.RightHistory.{Right}
 use Rattle.gm_flat.specs.RightInstall.{FileGet, GetBy, RightGet}
 use Rattle.gm_flat.specs.RightLives.{PageAdds, RightPageAdds, plan_of}
-use Rattle.gm_flat.specs.RightLook.{Route, ToFault, ToFile, ToMmio, ToUser, route_seen}
+use Rattle.gm_flat.specs.RightLook.{Route, ToAgain, ToFault, ToFile, ToMmio, ToUser, route_seen}
 use Rattle.gm_flat.specs.RightOrder.{IsLooked}
 use Rattle.gm_flat.specs.Slots.{slot_span}
 use Rattle.gm_flat.specs.declared.effect.Backing.{Backing}
 use Rattle.gm_flat.specs.declared.effect.Backing.TheVariants.{Folio as InFolio, User}
 use Rattle.gm_flat.specs.declared.effect.Effect.{Effect}
-use Rattle.gm_flat.specs.declared.effect.Effect.TheVariants.{Attr, Cut, File, Move, NoSlot, Shut, Slot, Word}
+use Rattle.gm_flat.specs.declared.effect.Effect.TheVariants.{Attr, Cut, File, Mark, Move, NoSlot, Shut, Slot, Word}
 use Rattle.gm_flat.specs.declared.entry.Entry.{Entry}
 use Rattle.gm_flat.specs.declared.entry.What.{What}
 use Rattle.gm_flat.specs.declared.entry.What.TheVariants.{Change, Get, Judge, Page}
@@ -38,7 +38,7 @@ use Rattle.gm_laws.proofs.Fronts.{front_follows}
 use Rattle.gm_laws.proofs.Grow.{same_state}
 use Rattle.gm_laws.proofs.Ids.{MemSlot}
 use Rattle.gm_laws.proofs.Kit.{by, cond_is, flat_at_all, none_is, some_same}
-use Rattle.gm_laws.proofs.Locks.{ChangeIn, Facts, Locks, SlotFiles, in_use-shut, still_file}
+use Rattle.gm_laws.proofs.Locks.{ChangeIn, Facts, Locks, MarkIn, SlotFiles, in_use-shut, still_file}
 use Rattle.gm_laws.proofs.LocksKeep.{CanChange, can_change, changer, inverted, new_then, no_new, then_same}
 use Rattle.gm_laws.proofs.Plans.{FilesUsed, Fits, fits}
 use Rattle.gm_laws.proofs.RightIsRuled.{ruled}
@@ -62,13 +62,18 @@ all_shut P Q F [] f a = tt
 all_shut P Q F (r ∷ rs) f a = (f r a.0, all_shut P Q F rs f a.1)
 
 -- of the slot that moves and of the others
-pub all_moved : (P : SlotView → Type 0) (id base : ℕ) (rs : List SlotView) → ((r : SlotView) → with_id id rs ≡ Some r → P (record r { base = base })) → AllOf P rs → AllOf P (moved id base rs)
+pub all_moved : (P : SlotView → Type 0) (id base : ℕ) (rs : List SlotView) → ((r : SlotView) → with_id id rs ≡ Some r → P (record r { base = base; invalid = false })) → AllOf P rs → AllOf P (moved id base rs)
 all_moved P id base [] f a = tt
 all_moved P id base (r ∷ rs) f a = go (eqb r.id id) refl (λ g. all_moved P id base rs g a.1)
   where
-    go : (t : Bool) → eqb r.id id ≡ t → (((q : SlotView) → with_id id rs ≡ Some q → P (record q { base = base })) → AllOf P (moved id base rs)) → AllOf P (cond t (record r { base = base } ∷ rs) (r ∷ moved id base rs))
+    go : (t : Bool) → eqb r.id id ≡ t → (((q : SlotView) → with_id id rs ≡ Some q → P (record q { base = base; invalid = false })) → AllOf P (moved id base rs)) → AllOf P (cond t (record r { base = base; invalid = false } ∷ rs) (r ∷ moved id base rs))
     go true e ih = (f r (cond-true (eqb r.id id) (Some r) (with_id id rs) e), a.1)
     go false e ih = (a.0, ih (λ q h. f q (cond-false (eqb r.id id) (Some r) (with_id id rs) e ∙ h)))
+
+-- the slot that is marked, and the others
+pub all_marked : (P : SlotView → Type 0) (id : ℕ) (rs : List SlotView) → ((r : SlotView) → P r → P (record r { invalid = true })) → AllOf P rs → AllOf P (marked id rs)
+all_marked P id [] f a = tt
+all_marked P id (r ∷ rs) f a = cond_P (AllOf P) (eqb r.id id) (record r { invalid = true } ∷ rs) (r ∷ marked id rs) (f r a.0, a.1) (a.0, all_marked P id rs f a.1)
 
 pair_dropped : (R : SlotView → SlotView → Type 0) (id : ℕ) (rs : List SlotView) → Pairwise R rs → Pairwise R (dropped id rs)
 pair_dropped R id [] a = tt
@@ -80,7 +85,7 @@ pair_shut R F (r ∷ rs) f a = (all_shut (R r) (R (shut_slot F r)) F rs (f r) a.
 
 -- a relation that doesn't look at the base
 abbrev BaseFree : (SlotView → SlotView → Type 0) → Type 0
-BaseFree R = (r q : SlotView) (base : ℕ) → R r q → R (record r { base = base }) q × R r (record q { base = base })
+BaseFree R = (r q : SlotView) (base : ℕ) → R r q → R (record r { base = base; invalid = false }) q × R r (record q { base = base; invalid = false })
 
 pub all_with : (P : SlotView → Type 0) (id : ℕ) (r : SlotView) (rs : List SlotView) → with_id id rs ≡ Some r → AllOf P rs → P r
 all_with P id r [] e a = absurd (none_is r e)
@@ -91,9 +96,19 @@ all_with P id r (x ∷ xs) e a = elim (cond_is (eqb x.id id) (Some x) (with_id i
 
 pair_moved : (R : SlotView → SlotView → Type 0) (id base : ℕ) (rs : List SlotView) → BaseFree R → Pairwise R rs → Pairwise R (moved id base rs)
 pair_moved R id base [] f a = tt
-pair_moved R id base (r ∷ rs) f a = cond_P (Pairwise R) (eqb r.id id) (record r { base = base } ∷ rs) (r ∷ moved id base rs)
-    (all_map (R r) (R (record r { base = base })) rs (λ q h. (f r q base h).0) a.0, a.1)
+pair_moved R id base (r ∷ rs) f a = cond_P (Pairwise R) (eqb r.id id) (record r { base = base; invalid = false } ∷ rs) (r ∷ moved id base rs)
+    (all_map (R r) (R (record r { base = base; invalid = false })) rs (λ q h. (f r q base h).0) a.0, a.1)
     (all_moved (R r) id base rs (λ q h. (f r q base (all_with (R r) id q rs h a.0)).1) a.0, pair_moved R id base rs f a.1)
+
+-- a relation that doesn't look at marks
+abbrev MarkFree : (SlotView → SlotView → Type 0) → Type 0
+MarkFree R = (r q : SlotView) → R r q → R (record r { invalid = true }) q × R r (record q { invalid = true })
+
+pair_marked : (R : SlotView → SlotView → Type 0) (id : ℕ) (rs : List SlotView) → MarkFree R → Pairwise R rs → Pairwise R (marked id rs)
+pair_marked R id [] f a = tt
+pair_marked R id (r ∷ rs) f a = cond_P (Pairwise R) (eqb r.id id) (record r { invalid = true } ∷ rs) (r ∷ marked id rs)
+    (all_map (R r) (R (record r { invalid = true })) rs (λ q h. (f r q h).0) a.0, a.1)
+    (all_marked (R r) id rs (λ q h. (f r q h).1) a.0, pair_marked R id rs f a.1)
 
 -- slots that lie apart
 meets_all : (s : SlotView) (rs : List SlotView) → meets_slot s.base s.pages rs ≡ false → AllOf (LiesApart s) rs
@@ -110,14 +125,14 @@ move_apart : (id base : ℕ) (rs : List SlotView) → ((s : SlotView) → with_i
 move_apart id base [] f a = tt
 move_apart id base (r ∷ rs) f a = go (eqb r.id id) refl (λ g. move_apart id base rs g a.1)
   where
-    go : (t : Bool) → eqb r.id id ≡ t → (((s : SlotView) → with_id id rs ≡ Some s → meets_slot base s.pages (dropped id rs) ≡ false) → Pairwise LiesApart (moved id base rs)) → Pairwise LiesApart (cond t (record r { base = base } ∷ rs) (r ∷ moved id base rs))
+    go : (t : Bool) → eqb r.id id ≡ t → (((s : SlotView) → with_id id rs ≡ Some s → meets_slot base s.pages (dropped id rs) ≡ false) → Pairwise LiesApart (moved id base rs)) → Pairwise LiesApart (cond t (record r { base = base; invalid = false } ∷ rs) (r ∷ moved id base rs))
     go true e ih =
         let m : meets_slot base r.pages (dropped id (r ∷ rs)) ≡ false = f r (cond-true (eqb r.id id) (Some r) (with_id id rs) e) in
-        (meets_all (record r { base = base }) rs (ap (λ (ss : List SlotView). meets_slot base r.pages ss) (sym (cond-true (eqb r.id id) rs (r ∷ dropped id rs) e)) ∙ m), a.1)
+        (meets_all (record r { base = base; invalid = false }) rs (ap (λ (ss : List SlotView). meets_slot base r.pages ss) (sym (cond-true (eqb r.id id) rs (r ∷ dropped id rs) e)) ∙ m), a.1)
     go false e ih =
         let m : (s : SlotView) → with_id id rs ≡ Some s → meets_slot base s.pages (r ∷ dropped id rs) ≡ false = λ s h. ap (λ (ss : List SlotView). meets_slot base s.pages ss) (sym (cond-false (eqb r.id id) rs (r ∷ dropped id rs) e)) ∙ f s (cond-false (eqb r.id id) (Some r) (with_id id rs) e ∙ h) in (
-          all_moved (LiesApart r) id base rs (λ s h. apart_sym (record s { base = base }) r (or_parts (meets (slot_span (record s { base = base })) (slot_span r)) (meets_slot base s.pages (dropped id rs)) (m s h)).0) a.0,
-          ih (λ s h. (or_parts (meets (slot_span (record s { base = base })) (slot_span r)) (meets_slot base s.pages (dropped id rs)) (m s h)).1),
+          all_moved (LiesApart r) id base rs (λ s h. apart_sym (record s { base = base; invalid = false }) r (or_parts (meets (slot_span (record s { base = base; invalid = false })) (slot_span r)) (meets_slot base s.pages (dropped id rs)) (m s h)).0) a.0,
+          ih (λ s h. (or_parts (meets (slot_span (record s { base = base; invalid = false })) (slot_span r)) (meets_slot base s.pages (dropped id rs)) (m s h)).1),
         )
 
 -- ids
@@ -169,11 +184,12 @@ pub record SlotsApart (rs : List SlotView) : Type 0 where
 
 slots_effect : (e : Effect) (i : Ioctl) (h f : Flat) → Facts e i h f → SlotsApart f.slots → SlotsApart (apply e f).slots
 slots_effect (Slot id base pages user flags file index) i h f x a =
-    let s : SlotView = record { id = id; base = base; pages = pages; user = user; flags = flags; file = file; index = index } in
+    let s : SlotView = record { id = id; base = base; pages = pages; user = user; flags = flags; file = file; index = index; invalid = false } in
     cond_P (λ (z : Flat). SlotsApart z.slots) (slot_fits s) (record f { slots = s ∷ f.slots }) f
     (record { ids = (other_ids s f.slots x.3, a.ids); lie = (meets_all s f.slots x.4, a.lie); bound = (new_bound_apart s f.slots file refl x.5, a.bound) })
     a
 slots_effect (NoSlot id) i h f x a = record { ids = pair_dropped HasOtherId id f.slots a.ids; lie = pair_dropped LiesApart id f.slots a.lie; bound = pair_dropped IsBoundApart id f.slots a.bound }
+slots_effect (Mark id) i h f x a = record { ids = pair_marked HasOtherId id f.slots (λ r q k. (k, k)) a.ids; lie = pair_marked LiesApart id f.slots (λ r q k. (k, k)) a.lie; bound = pair_marked IsBoundApart id f.slots (λ r q k. (k, k)) a.bound }
 slots_effect (Move id base) i h f x a =
     record {
       ids = pair_moved HasOtherId id base f.slots (λ r q b k. (k, k)) a.ids;
@@ -210,15 +226,26 @@ paged_fits s i f p e = subst (λ (z : Plan). Fits i f z) e (fits s i f)
 paged_takes : (s : Setup) (i : Ioctl) (f : Flat) (p : PagePlan) → SlotFiles f → plan s i f ≡ Paged p → takes (FileLock p.file) i f ≡ true
 paged_takes s i f p sf e = let y = paged_fits s i f p e in and_from (takes_file p.file i f) (in_use p.file f.files) y.0 (y.1 (used_slots f sf))
 
-not_paged : (s : Setup) (e : Effect) (past : List Entry) (x : Call) (b : Option Bracket) (p : PagePlan) → ChangeIn s e past x b → plan s x.ioctl (flat_at x.judged past) ≡ Paged p → ⊥
-not_paged s e past x None p m q = clash m.1.0 (sym m.1.1 ∙ q)
+change_paged : (s : Setup) (e : Effect) (past : List Entry) (x : Call) (b : Option Bracket) (p : PagePlan) → ChangeIn s e past x b → plan s x.ioctl (flat_at x.judged past) ≡ Paged p → ⊥
+change_paged s e past x None p m q = clash m.1.0 (sym m.1.1 ∙ q)
   where
     clash : (n : ℕ) → Short e n ≡ Paged p → ⊥
     clash n e = cc
-not_paged s e past x (Some b) p m q = clash m.1.0 (sym m.1.1 ∙ q)
+change_paged s e past x (Some b) p m q = clash m.1.0 (sym m.1.1 ∙ q)
   where
     clash : (ss : List Extent) → Bracketed e ss ≡ Paged p → ⊥
     clash ss e = cc
+
+mark_paged : (s : Setup) (e : Effect) (past : List Entry) (x : Call) (b : Option Bracket) (p : PagePlan) → MarkIn s e past x b → plan s x.ioctl (flat_at x.judged past) ≡ Paged p → ⊥
+mark_paged s e past x None p m q = m
+mark_paged s e past x (Some b) p m q = clash m.1.0 m.1.1 (sym m.1.2 ∙ q)
+  where
+    clash : (f : Effect) (ss : List Extent) → Bracketed f ss ≡ Paged p → ⊥
+    clash f ss e = cc
+
+not_paged : (s : Setup) (e : Effect) (past : List Entry) (x : Call) (b : Option Bracket) (p : PagePlan) → ((is_mark e ≡ false) × ChangeIn s e past x b) ⊎ MarkIn s e past x b → plan s x.ioctl (flat_at x.judged past) ≡ Paged p → ⊥
+not_paged s e past x b p (inl m) q = change_paged s e past x b p m.1 q
+not_paged s e past x b p (inr m) q = mark_paged s e past x b p m q
 
 own_paged : (s : Setup) (e : Effect) (past : List Entry) (d : ℕ) (o : Option Call) (b : Option Bracket) (y : Call) (p : PagePlan) → call d past ≡ o → CanChange s e past o b → call d past ≡ Some y → plan s y.ioctl (flat_at y.judged past) ≡ Paged p → ⊥
 own_paged s e past d None b y p eo m ey q = m
@@ -239,8 +266,9 @@ in_use_or F (Shut K) i h f x u = elim (cases_eq K F) [
 ]
 in_use_or F (File file pages block) i h f x u = inl (use_cons (eqb file F) (in_use F f.files) u)
 in_use_or F (Slot id base pages user flags file index) i h f x u =
-    let s : SlotView = record { id = id; base = base; pages = pages; user = user; flags = flags; file = file; index = index } in
+    let s : SlotView = record { id = id; base = base; pages = pages; user = user; flags = flags; file = file; index = index; invalid = false } in
     inl (cond_P (λ (z : Flat). in_use F z.files ≡ true) (slot_fits s) (record f { slots = s ∷ f.slots }) f u u)
+in_use_or F (Mark id) i h f x u = inl u
 in_use_or F (NoSlot id) i h f x u = inl u
 in_use_or F (Move id base) i h f x u = inl u
 in_use_or F (Attr span kind) i h f x u = inl u
@@ -307,6 +335,7 @@ file_used b fresh None I f g = absurd g
 route_used : (r : Route) (b : Backing) (fresh : ℕ) (a : Aim) (l : Seen) (past : List Entry) → GetBy r b fresh a l past → AddsToUsed (get_addition b fresh l.file (index_in a.page (looked_slot l past)) (flat past).files) (flat past)
 route_used ToUser b fresh a l past g = none_used (get_addition b fresh l.file (index_in a.page (looked_slot l past)) (flat past).files) (flat past) (user_none b fresh a.page (looked_slot l past) l.file (index_in a.page (looked_slot l past)) (flat past).files g)
 route_used ToFile b fresh a l past g = file_used b fresh l.file (index_in a.page (looked_slot l past)) (flat past) g
+route_used ToAgain b fresh a l past g = absurd g
 route_used ToFault b fresh a l past g = absurd g
 route_used ToMmio b fresh a l past g = absurd g
 
@@ -358,8 +387,9 @@ effect_used (Shut F) f c = cond_P CachedUsed (was_made F f.files) (record f { sl
     ])
     c
 effect_used (Slot id base pages user flags file index) f c =
-    let s : SlotView = record { id = id; base = base; pages = pages; user = user; flags = flags; file = file; index = index } in
+    let s : SlotView = record { id = id; base = base; pages = pages; user = user; flags = flags; file = file; index = index; invalid = false } in
     cond_P CachedUsed (slot_fits s) (record f { slots = s ∷ f.slots }) f c c
+effect_used (Mark id) f c = c
 effect_used (NoSlot id) f c = c
 effect_used (Move id base) f c = c
 effect_used (Attr span kind) f c = c

@@ -13,7 +13,7 @@ use Rattle.gm_flat.specs.FlatState.{Flat, in_use}
 use Rattle.gm_flat.specs.Histories.{Fault, Faulting, NoFault, Seen, bracket, call, fault, is_vcpu}
 use Rattle.gm_flat.specs.Invalidation.{stale}
 use Rattle.gm_flat.specs.Mappings.{Mapping, fills, first_serving, flushed, flushed_step, inside, leaves}
-use Rattle.gm_flat.specs.NamedPage.{Named, named}
+use Rattle.gm_flat.specs.NamedPage.{Named, named, named_aside}
 use Rattle.gm_flat.specs.Replay.{flat, flat_at, looked_slot}
 use Rattle.gm_flat.specs.RightInstall.{IsShut, Retries, RightInstall}
 use Rattle.gm_flat.specs.RightLook.{ToFile, file_of, route_seen}
@@ -24,9 +24,9 @@ use Rattle.gm_flat.specs.declared.entry.Entry.{Entry}
 use Rattle.gm_flat.specs.declared.entry.What.{What}
 use Rattle.gm_flat.specs.declared.entry.What.TheVariants.{Acked, Begin, Change, End, Enter, Flush, Get, Gone, Install, Miss, Retry, Touch}
 use Rattle.gm_flat.specs.declared.views.SlotView.{SlotView}
-use Rattle.gm_laws.proofs.Flats.{of_file, over}
+use Rattle.gm_laws.proofs.Flats.{named_is_aside, of_file, over}
 use Rattle.gm_laws.proofs.Good.{FaultOk, Good, KindIs, LookOk, LooksSince, fill_at_more, from_more, looks_more, since_more}
-use Rattle.gm_laws.proofs.Grow.{grow, looked_over, same_look, stale_since}
+use Rattle.gm_laws.proofs.Grow.{grow, grow_aside, looked_over, same_look, stale_since}
 use Rattle.gm_laws.proofs.Ids.{MemSlot, over_mem}
 use Rattle.gm_laws.proofs.Keep.{faults_keep, keep_enter, keep_flush, keep_gone, keep_miss}
 use Rattle.gm_laws.proofs.KeepCaller.{keep_acked, keep_begin, keep_change, keep_end}
@@ -35,7 +35,7 @@ use Rattle.gm_laws.proofs.Kit.{by, changed-le, flat_at_all, none_is, settled-le,
 use Rattle.gm_laws.proofs.Locks.{Locks, SlotFiles}
 use Rattle.gm_laws.proofs.LocksKeep.{can_change, locks_keep}
 use Rattle.gm_laws.proofs.Routes.{route_file}
-use Rattle.gm_laws.proofs.SafeChange.{safe}
+use Rattle.gm_laws.proofs.SafeChange.{safe, safe_all}
 use Rattle.gm_laws.proofs.Tally.{tally}
 use Rattle.gm_laws.specs.May.{May, MayRetry, MayTouch, ServedBy}
 use Rattle.gm_laws.specs.Ruled.{Follows}
@@ -52,9 +52,9 @@ flushed-le [] v = omega arith
 flushed-le (e ∷ past) v = flushed_step-le v e.what e.actor (length past) (flushed v past) (flushed-le past v)
 
 -- what a leaf or a fill gave is named still, where names only grow
-grown : (k : Kind) (f g : Flat) (h : ℕ) (o : Option Named) → ((m : Named) → named f h ≡ Some m → named g h ≡ Some m) → KindIs k o → named f h ≡ o → named g h ≡ o
-grown k f g h None stay kind e = absurd kind
-grown k f g h (Some m) stay kind e = stay m e
+grown : (k : Kind) (N : Flat → ℕ → Option Named) (f g : Flat) (h : ℕ) (o : Option Named) → ((m : Named) → N f h ≡ Some m → N g h ≡ Some m) → KindIs k o → N f h ≡ o → N g h ≡ o
+grown k N f g h None stay kind e = absurd kind
+grown k N f g h (Some m) stay kind e = stay m e
 
 pub keep : (o : Orders) (t : ℕ) (w : What) (a : Actor) (past : List Entry) → IsOf o.setup a → Locks o.setup past → Good o.setup.callers past → May o w a past → Good o.setup.callers (by t a w ∷ past)
 keep o t Enter (Vcpu u) past lt k g m = keep_enter o t u past k.ids g m
@@ -65,7 +65,7 @@ keep o t (Install page level) (Vcpu u) past lt k g m = keep_install o t u page l
 keep o t (Touch a b level value fill) (Vcpu u) past lt k g m = keep_touch o t u fill a b level value past (flushed-le past) k.ids g m
 keep o t (Begin spans) (Caller d) past lt k g m = keep_begin o t d spans past lt k.ids g m
 keep o t Acked (Caller d) past lt k g m = keep_acked o t d past k.ids g m
-keep o t (Change effect) (Caller d) past lt k g m = keep_change o t d effect past k.ids g m (safe o.setup effect d past (call d past) (bracket d past) k refl refl (can_change o.setup effect past (call d past) (bracket d past) m))
+keep o t (Change effect) (Caller d) past lt k g m = keep_change o t d effect past k.ids g m (safe o.setup effect d past (call d past) (bracket d past) k refl refl (can_change o.setup effect past (call d past) (bracket d past) m)) (safe_all o.setup effect d past (call d past) (bracket d past) k refl refl (can_change o.setup effect past (call d past) (bracket d past) m))
 keep o t End (Caller d) past lt k g m = keep_end o t d past lt k.ids g m
 keep o t Enter (Caller d) past lt k g m = absurd m
 keep o t Flush (Caller d) past lt k g m = absurd m
@@ -87,9 +87,9 @@ keep o t w a past lt k g m =
       old_fill = g.old_fill;
       is_flushed = g.is_flushed;
       fill_in = λ v f i. ((g.fill_in v f i).0, fill_at_more (by t a w) past f (g.fill_in v f i).1);
-      leaf_names = λ l h i q. (grown l.kind (flat past) (flat (by t a w ∷ past)) h (l.gives h) (grow o t w a past refl m h) (g.leaf_names l h i q).1 (g.leaf_names l h i q).0, (g.leaf_names l h i q).1);
+      leaf_names = λ l h i q. (grown l.kind named (flat past) (flat (by t a w ∷ past)) h (l.gives h) (grow o t w a past refl m h) (g.leaf_names l h i q).1 (g.leaf_names l h i q).0, (g.leaf_names l h i q).1);
       fill_names = λ v h f i q. elim (g.fill_names v h f i q) [
-        | inl y ↦ inl (grown f.kind (flat past) (flat (by t a w ∷ past)) h (f.gives h) (grow o t w a past refl m h) ((g.fill_in v f i).1.2 h q) y.0, y.1)
+        | inl y ↦ inl (grown f.kind named_aside (flat past) (flat (by t a w ∷ past)) h (f.gives h) (grow_aside o t w a past refl m h) ((g.fill_in v f i).1.2 h q) y.0, y.1)
         | inr y ↦ inr y
       ];
       since = since_more (by t a w) past (grow o t w a past refl m) g.since;
@@ -155,19 +155,26 @@ pub record Touched (v : ℕ) (a : Aim) (b : Backing) (level : Level) (fill : ℕ
   pub flush : flushed v past ≤ fill
   pub change : changed a.page past ≤ fill
   pub then_named : CanUse a b (named (flat_at fill past) a.page)
-  pub now_named : CanUse a b (named (flat past) a.page)
+  pub now_named : CanUse a b (named_aside (flat past) a.page)
 
 served_by : (a : Aim) (b : Backing) (level : Level) (fill n : ℕ) (x p : Option Mapping) → ServedBy a b level fill n x p → IsServed level fill n x p
 served_by a b level fill n (Some f) p s = (s.0, s.1)
 served_by a b level fill n None (Some l) s = (s.0, s.1)
 served_by a b level fill n None None s = s
 
+pub use_aside : (a : Aim) (b : Backing) (f : Flat) (g : ℕ) → CanUse a b (named f g) → CanUse a b (named_aside f g)
+use_aside a b f g u = go (named f g) refl u
+  where
+    go : (o : Option Named) → named f g ≡ o → CanUse a b o → CanUse a b (named_aside f g)
+    go None e u = absurd u
+    go (Some m) e u = subst (λ (z : Option Named). CanUse a b z) (sym (named_is_aside f g m e)) u
+
 touched_by : (o : Orders) (u fill : ℕ) (a : Aim) (b : Backing) (level : Level) (past : List Entry) (x p : Option Mapping) → first_serving a (fills u past) ≡ x → first_serving a (leaves past) ≡ p → Good o.setup.callers past → inside u past ≡ true → IsFirst a (fills u past) x → IsFirst a (leaves past) p → ServedBy a b level fill (length past) x p → Touched u a b level fill past
 touched_by o u fill a b level past (Some f) p ex ep g i h k s =
     let x = serves_use a b f h.1 in
     let at = (g.fill_in u f h.0).1 in
     let given : CanUse a b (f.gives a.page) = x.2 (at.2 a.page x.0) s.2 in
-    let now : (named (flat past) a.page ≡ f.gives a.page) × (changed a.page past ≤ f.made) = elim (g.fill_names u a.page f h.0 x.0) [
+    let now : (named_aside (flat past) a.page ≡ f.gives a.page) × (changed a.page past ≤ f.made) = elim (g.fill_names u a.page f h.0 x.0) [
       | inl y ↦ y
       | inr y ↦ absurd (both_ways (inside u past) y.0 i)
     ] in
@@ -185,7 +192,7 @@ touched_by o u fill a b level past None (Some l) ex ep g i h k s =
       flush = rw s.0 (flushed-le past u);
       change = rw s.0 (changed-le a.page past);
       then_named = subst (λ (y : Flat). CanUse a b (named y a.page)) (sym (ap (λ (y : ℕ). flat_at y past) s.0 ∙ flat_at_all past)) w.5;
-      now_named = w.5;
+      now_named = use_aside a b (flat past) a.page w.5;
     }
 touched_by o u fill a b level past None None ex ep g i h k s = absurd s
 
@@ -238,7 +245,10 @@ retry_shut o past a s l k looks ok e h =
 
 retry_right : (o : Orders) (past : List Entry) (x : Fault) → Locks o.setup past → LooksSince past → FaultOk past x → MayRetry past x → Retries past x
 retry_right o past (Faulting a m (Some s) (Some l) (Some q)) k looks ok h = h
-retry_right o past (Faulting a m (Some s) (Some l) None) k looks ok h = record { right_route = h.0; is_shut = h.1; is_stale = retry_shut o past a s l k looks ok h.0 h.1 }
+retry_right o past (Faulting a m (Some s) (Some l) None) k looks ok h = elim h [
+  | inl again ↦ inl again
+  | inr shut ↦ inr (record { right_route = shut.0; is_shut = shut.1; is_stale = retry_shut o past a s l k looks ok shut.0 shut.1 })
+]
 retry_right o past (Faulting a m (Some s) None q) k looks ok h = absurd h
 retry_right o past (Faulting a m None l q) k looks ok h = absurd h
 retry_right o past NoFault k looks ok h = absurd h

@@ -40,16 +40,16 @@ record Begun (o : Orders) (t : ℕ) (a : Actor) (pre : List What) (d : Entry) (p
   before : before_turn (d ∷ p) ≡ past
 
 -- what comes right after a Judge of the same caller doesn't cut
-not_late : (o : Orders) (t : ℕ) (a : Actor) (w : What) (pre ws : List What) (d : Entry) (p past : List Entry) → Begun o t a pre d p past → is_row o.setup a (pre ++ w ∷ ws) (flat past) ≡ true → Follows o (d ∷ p) → May o w a (d ∷ p) → loosens w ≡ true → ⊥
+not_late : (o : Orders) (t : ℕ) (a : Actor) (w : What) (pre ws : List What) (d : Entry) (p past : List Entry) → Begun o t a pre d p past → is_row o.setup a (pre ++ w ∷ ws) past ≡ true → Follows o (d ∷ p) → May o w a (d ∷ p) → loosens w ≡ true → ⊥
 not_late o t a w pre ws d p past b r f m l =
     loose_first o w a d p (locks o p f.1) b.same_a
-    (last_judge d p (subst IsOneJudge (sym b.entries) (late_loose pre w ws (row_quiet o.setup a (pre ++ w ∷ ws) (flat past) r) l)))
+    (last_judge d p (subst IsOneJudge (sym b.entries) (late_loose pre w ws (row_quiet o.setup a (pre ++ w ∷ ws) past r) l)))
     (step_is o d.what d.actor p f.0.may) (step_is o w a (d ∷ p) m) (right_calls o w a (d ∷ p) m) l
 
 no_loose : (x : Bool) → (x ≡ true → ⊥) → x ≡ true → {y : Bool} → y ≡ false
 no_loose x n h = absurd (n h)
 
-next_rules : (o : Orders) (t : ℕ) (a : Actor) (w : What) (pre ws : List What) (d : Entry) (p past : List Entry) → IsOf o.setup a → Begun o t a pre d p past → is_row o.setup a (pre ++ w ∷ ws) (flat past) ≡ true → Follows o (d ∷ p) → May o w a (d ∷ p) → FollowsRules o (by t a w) (d ∷ p)
+next_rules : (o : Orders) (t : ℕ) (a : Actor) (w : What) (pre ws : List What) (d : Entry) (p past : List Entry) → IsOf o.setup a → Begun o t a pre d p past → is_row o.setup a (pre ++ w ∷ ws) past ≡ true → Follows o (d ∷ p) → May o w a (d ∷ p) → FollowsRules o (by t a w) (d ∷ p)
 next_rules o t a w pre ws d p past is b r f m =
     let same : same_turn (by t a w) (d ∷ p) ≡ true = eq-eqb d.turn t b.turn_is in
     record {
@@ -71,26 +71,26 @@ next_begun o t a w pre d p past b =
       before = cond-true (same_turn (by t a w) (d ∷ p)) (before_turn (d ∷ p)) (d ∷ p) same ∙ b.before;
     }
 
-rest_ruled : (o : Orders) (t : ℕ) (a : Actor) (pre ws : List What) (d : Entry) (p past : List Entry) → IsOf o.setup a → Begun o t a pre d p past → is_row o.setup a (pre ++ ws) (flat past) ≡ true → Follows o (d ∷ p) → EachMay o t a ws (d ∷ p) → AllFreed (onto t a ws (d ∷ p)) → Ruled o (onto t a ws (d ∷ p))
+rest_ruled : (o : Orders) (t : ℕ) (a : Actor) (pre ws : List What) (d : Entry) (p past : List Entry) → IsOf o.setup a → Begun o t a pre d p past → is_row o.setup a (pre ++ ws) past ≡ true → Follows o (d ∷ p) → EachMay o t a ws (d ∷ p) → AllFreed (onto t a ws (d ∷ p)) → Ruled o (onto t a ws (d ∷ p))
 rest_ruled o t a pre [] d p past is b r f m freed =
     record {
       follows = f;
-      row = subst (λ (x : Actor). is_row o.setup x (newest_turn (d ∷ p)) (flat (before_turn (d ∷ p))) ≡ true) (sym b.same_a)
-          (subst (λ (q : List Entry). is_row o.setup a (newest_turn (d ∷ p)) (flat q) ≡ true) (sym b.before)
-          (subst (λ (xs : List What). is_row o.setup a xs (flat past) ≡ true) (append-nil pre ∙ sym b.entries) r));
+      row = subst (λ (x : Actor). is_row o.setup x (newest_turn (d ∷ p)) (before_turn (d ∷ p)) ≡ true) (sym b.same_a)
+          (subst (λ (q : List Entry). is_row o.setup a (newest_turn (d ∷ p)) q ≡ true) (sym b.before)
+          (subst (λ (xs : List What). is_row o.setup a xs past ≡ true) (append-nil pre ∙ sym b.entries) r));
       freed = freed;
     }
 rest_ruled o t a pre (w ∷ ws) d p past is b r f m freed =
     rest_ruled o t a (pre ++ w ∷ []) ws (by t a w) (d ∷ p) past is (next_begun o t a w pre d p past b)
-    (subst (λ (xs : List What). is_row o.setup a xs (flat past) ≡ true) (sym (append_assoc pre (w ∷ []) ws)) r)
+    (subst (λ (xs : List What). is_row o.setup a xs past ≡ true) (sym (append_assoc pre (w ∷ []) ws)) r)
     (next_rules o t a w pre ws d p past is b r f m.0, f) m.1 freed
 
-pub no_row : (s : Setup) (a : Actor) (f : Flat) → is_row s a [] f ≡ true → ⊥
+pub no_row : (s : Setup) (a : Actor) (f : List Entry) → is_row s a [] f ≡ true → ⊥
 no_row s (Vcpu v) f e = false_true e
 no_row s (Caller c) f e = false_true e
 
 pub turn_ruled : (o : Orders) (t : ℕ) (a : Actor) (ws : List What) (past : List Entry) → IsTurn o t a ws past → Ruled o past → Ruled o (onto t a ws past)
-turn_ruled o t a [] past u r = absurd (no_row o.setup a (flat past) u.row)
+turn_ruled o t a [] past u r = absurd (no_row o.setup a past u.row)
 turn_ruled o t a (w ∷ ws) past u r =
     let new : same_turn (by t a w) past ≡ false = new_turn t a w past u.new in
     rest_ruled o t a (w ∷ []) ws (by t a w) past past u.actor_is

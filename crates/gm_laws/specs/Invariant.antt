@@ -7,7 +7,7 @@ use Rattle.gm_flat.specs.declared.entry.Entry.{Entry}
 use Rattle.gm_flat.specs.declared.views.SlotView.{SlotView}
 use Rattle.gm_flat.specs.Slots.{slot_over}
 use Rattle.gm_flat.specs.Histories.{Seen, Fault, Faulting, fault, Bracket, bracket}
-use Rattle.gm_flat.specs.NamedPage.{Named, named}
+use Rattle.gm_flat.specs.NamedPage.{Named, named, named_aside}
 use Rattle.gm_flat.specs.Attribute.{attr_of}
 use Rattle.gm_flat.specs.Replay.{flat, flat_at, looked_slot}
 use Rattle.gm_flat.specs.Mappings.{Mapping, covers, any_holds, leaves, fills, inside, pending, flushed}
@@ -35,13 +35,13 @@ pub record NoLeafUnderBracket (past : List Entry) : Type 0 where
   pub no_leaf : (c h : ℕ) (b : Bracket) (m : Mapping) → bracket c past ≡ Some b → Among m (leaves past) → covers m h ≡ true → any_holds b.spans h ≡ false
   pub old_fill : (c v h : ℕ) (b : Bracket) (m : Mapping) → bracket c past ≡ Some b → Among m (fills v past) → covers m h ≡ true → any_holds b.spans h ≡ true → m.made < b.begun
 
--- *fills name then*: a fill gives what was named at its position; that is named now, and no change on the page is newer, or
--- its vCPU is outside and flushes before it enters
+-- *fills name then*: a fill gives what was named at its position; that is named now with marks left aside, and no change on
+-- the page is newer, or its vCPU is outside and flushes before it enters
 pub record NamedThen (v h : ℕ) (m : Mapping) (past : List Entry) : Type 0 where
   pub since_flush : flushed v past ≤ m.made
   pub then_named : named (flat_at m.made past) h ≡ m.gives h
   pub has_kind : HasKind m.kind (m.gives h)
-  pub now_or_out : ((named (flat past) h ≡ m.gives h) × (changed h past ≤ m.made)) ⊎ ((inside v past ≡ false) × (pending v past ≡ true))
+  pub now_or_out : ((named_aside (flat past) h ≡ m.gives h) × (changed h past ≤ m.made)) ⊎ ((inside v past ≡ false) × (pending v past ≡ true))
 
 abbrev pub FillsNameThen : List Entry → Type 0
 FillsNameThen past = (v h : ℕ) (m : Mapping) → Among m (fills v past) → covers m h ≡ true → NamedThen v h m past

@@ -9,6 +9,7 @@ pub mod LivesEverywhere
 pub mod May
 pub mod MixedBlock
 pub mod MoveAndDeletion
+pub mod MarkedSlot
 pub mod OneRead
 pub mod PopulationAndClose
 pub mod Readings

@@ -1,6 +1,6 @@
 -- Which entry may come next, by the tables of turns and calls and by what a machine can see: the first fill or leaf that
 -- serves, staleness, the plan of a call, the cache and the frames. One clause for each kind of entry with its actor.
-use Rattle.std.specs.Prelude.{◌≡◌, ℕ, List, true, false, length, Some, None}
+use Rattle.std.specs.Prelude.{◌≡◌, ℕ, List, true, false, ◌⊎◌, length, Some, None}
 use Rattle.std.specs.declared.option.Option.{Option}
 use Rattle.gm_base.specs.Aim.{Aim}
 use Rattle.gm_base.specs.Scripts.{Orders}
@@ -19,7 +19,7 @@ use Rattle.gm_flat.specs.Words.{word_of}
 use Rattle.gm_flat.specs.Mappings.{Mapping, pending, inside, fills, leaves, first_serving}
 use Rattle.gm_flat.specs.Invalidation.{stale}
 use Rattle.gm_flat.specs.RightTouch.{IsValue, MissIsRight}
-use Rattle.gm_flat.specs.RightLook.{ToFile, route_seen, RightSample, RightSeen, RightExit}
+use Rattle.gm_flat.specs.RightLook.{ToAgain, ToFile, route_seen, RightSample, RightSeen, RightExit}
 use Rattle.gm_flat.specs.RightInstall.{IsShut, RightGet}
 use Rattle.gm_flat.specs.RightLevel.{LevelIs}
 use Rattle.gm_flat.specs.RightLives.{RightGetAdds, RightPageAdds, FreeIsRight}
@@ -51,10 +51,10 @@ abbrev pub MayInstall : ℕ → List Entry → Fault → Type 0
 MayInstall page past (Faulting a missed (Some sample) (Some seen) (Some gotten)) = (page ≡ a.page) × (stale (Some sample) a.page past ≡ false)
 MayInstall page past _ = ⊥
 
--- after a Get that is stale, or after a Look for a file that is shut now
+-- after a Get that is stale, or after a Look that found a marked slot, or one for a file that is shut now
 abbrev pub MayRetry : List Entry → Fault → Type 0
 MayRetry past (Faulting a missed (Some sample) (Some seen) (Some gotten)) = stale (Some sample) a.page past ≡ true
-MayRetry past (Faulting a missed (Some sample) (Some seen) None) = (route_seen a seen past ≡ ToFile) × IsShut seen.file (flat past)
+MayRetry past (Faulting a missed (Some sample) (Some seen) None) = (route_seen a seen past ≡ ToAgain) ⊎ ((route_seen a seen past ≡ ToFile) × IsShut seen.file (flat past))
 MayRetry past _ = ⊥
 
 abbrev pub May : Orders → What → Actor → List Entry → Type 0
@@ -71,7 +71,7 @@ May o (Left why) (Vcpu v) past = IsLooked (fault v past) × RightExit o.setup.fr
 May o (Judge ioctl) (Caller c) past = Judges o c ioctl past
 May o (Begin spans) (Caller c) past = Begins (call c past) (bracket c past) × RightBegin o.setup spans.list (call c past) past
 May o Acked (Caller c) past = Acks (bracket c past) past
-May o (Change effect) (Caller c) past = Changes o.setup (call c past) (bracket c past) past × RightChange o.setup effect (call c past) past
+May o (Change effect) (Caller c) past = Changes o.setup effect (call c past) (bracket c past) past × RightChange o.setup effect (call c past) past
 May o (Page index folio pages) (Caller c) past = (bracket c past ≡ None) × RightPage o.setup index (call c past) past × RightPageAdds o.setup (call c past) (adds (Page index folio pages) (Caller c) past (states past)) past
 May o End (Caller c) past = Ends (call c past) (bracket c past)
 May o (Answer reply) (Caller c) past = (bracket c past ≡ None) × RightAnswer o.setup reply (call c past) past

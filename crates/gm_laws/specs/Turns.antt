@@ -4,7 +4,6 @@ use Rattle.gm_base.specs.Scripts.{Orders, IsOf}
 use Rattle.gm_base.specs.declared.values.Actor.{Actor}
 use Rattle.gm_flat.specs.declared.entry.Entry.{Entry}
 use Rattle.gm_flat.specs.declared.entry.What.{What}
-use Rattle.gm_flat.specs.Replay.{flat}
 use Rattle.gm_flat.specs.RightOrder.{is_row}
 use Rattle.gm_laws.specs.May.{May}
 use Rattle.gm_laws.specs.Ruled.{AllFreed}
@@ -27,7 +26,7 @@ IsNewTurn turn (d ∷ past) = d.turn < turn
 pub record IsTurn (o : Orders) (turn : ℕ) (actor : Actor) (ws : List What) (past : List Entry) : Type 0 where
   pub actor_is : IsOf o.setup actor
   pub new : IsNewTurn turn past
-  pub row : is_row o.setup actor ws (flat past) ≡ true
+  pub row : is_row o.setup actor ws past ≡ true
   pub each_may : EachMay o turn actor ws past
   -- where it takes pages from a cache or ends a hold: nothing is left over
   pub freed : AllFreed (onto turn actor ws past)

@@ -13,10 +13,11 @@ use Rattle.gm_flat.specs.declared.effect.Exit.TheVariants.{Fault as MemoryFault}
 use Rattle.gm_flat.specs.declared.effect.Reply.TheVariants.{Good as GoodReply}
 use Rattle.gm_flat.specs.declared.entry.Entry.{Entry}
 use Rattle.gm_flat.specs.declared.entry.What.TheVariants.{Acked, Answer, Begin, Change, End, Enter, Flush, Free, Get, Install, Judge, Left, Look, Miss, Retry, Sample, Touch}
-use Rattle.gm_laws.specs.Conversion.{conversion}
 use Rattle.gm_laws.specs.FlushPending.{flush_pending}
 use Rattle.gm_laws.specs.HeldPage.{held_page}
+use Rattle.gm_laws.specs.MarkedSlot.{marked_slot}
 use Rattle.gm_laws.specs.MixedBlock.{mixed_block}
+use Rattle.gm_laws.specs.MoveAndDeletion.{move_and_deletion}
 use Rattle.gm_laws.specs.OneRead.{one_read}
 use Rattle.gm_laws.specs.Rows.{entry}
 
@@ -135,9 +136,37 @@ bound_twice =
     entry 1 (Caller 0) (Judge (Create 8192 0)) ∷
     []
 
--- an install that looks up again and never compares a sequence
+-- A punch of another page while a fault is in flight: only the sequence tells.
+abbrev pub other_page_orders : Orders
+other_page_orders = record { setup = record { frames = 8; user = 16; vcpus = 1; callers = 1; huge = false }; vcpus = (TouchCommand (record { page = 0; word = 0; op = Read; kind = Shared }) ∷ []) ∷ []; callers = (CallCommand (Create 8192 0) ∷ CallCommand (Region2 (record { slot = 0; flags = 0; gpa = 0; size = 16384; user = 0; fd = 0; offset = 0 })) ∷ CallCommand (Region2 (record { slot = 1; flags = 4; gpa = 1048576; size = 8192; user = 0; fd = 0; offset = 0 })) ∷ CallCommand (Punch 0 0 4096) ∷ []) ∷ [] }
+
+abbrev pub other_page : List Entry
+other_page =
+    entry 13 (Caller 0) (Answer (GoodReply 0)) ∷
+    entry 13 (Caller 0) End ∷
+    entry 12 (Caller 0) (Change (Cut 0 0 1)) ∷
+    entry 11 (Caller 0) Acked ∷
+    entry 10 (Caller 0) (Begin (record { list = (record { lo = 256; hi = 257 }) ∷ []; spare = 0 })) ∷
+    entry 9 (Caller 0) (Judge (Punch 0 0 4096)) ∷
+    entry 8 (Vcpu 0) (Get (User 0) 0) ∷
+    entry 7 (Vcpu 0) (Look 12 (Some 0) Shared None) ∷
+    entry 6 (Vcpu 0) (Sample 11) ∷
+    entry 5 (Vcpu 0) (Miss (record { page = 0; word = 0; op = Read; kind = Shared })) ∷
+    entry 4 (Vcpu 0) Enter ∷
+    entry 3 (Caller 0) (Answer (GoodReply 0)) ∷
+    entry 3 (Caller 0) (Change (Slot 1 256 2 0 4 (Some 0) 0)) ∷
+    entry 3 (Caller 0) (Judge (Region2 (record { slot = 1; flags = 4; gpa = 1048576; size = 8192; user = 0; fd = 0; offset = 0 }))) ∷
+    entry 2 (Caller 0) (Answer (GoodReply 0)) ∷
+    entry 2 (Caller 0) (Change (Slot 0 0 4 0 0 None 0)) ∷
+    entry 2 (Caller 0) (Judge (Region2 (record { slot = 0; flags = 0; gpa = 0; size = 16384; user = 0; fd = 0; offset = 0 }))) ∷
+    entry 1 (Caller 0) (Answer (GoodReply 0)) ∷
+    entry 1 (Caller 0) (Change (File 0 2 false)) ∷
+    entry 1 (Caller 0) (Judge (Create 8192 0)) ∷
+    []
+
+-- an install that looks up again and never compares a sequence: its page lies in no span, and is named as it was
 abbrev pub never_compares : List Entry
-never_compares = entry 12 (Vcpu 0) (Install 0 Small) ∷ at 14 conversion
+never_compares = entry 14 (Vcpu 0) (Install 0 Small) ∷ other_page
 
 -- a second Begin that resets the kept range instead of widening it
 abbrev pub resets_the_range : List Entry
@@ -181,8 +210,24 @@ exits_by_the_miss = entry 15 (Vcpu 0) (Left (MemoryFault 0 0 4096)) ∷ hole_twi
 
 -- a binding test that overlooks a range meeting in its last page
 abbrev pub overlooks_the_last_page : List Entry
-overlooks_the_last_page = entry 3 (Caller 0) (Change (Slot 1 256 1 0 4 (Some 0) 1)) ∷ bound_twice
+overlooks_the_last_page = entry 3 (Caller 0) (Answer (GoodReply 0)) ∷ entry 3 (Caller 0) (Change (Slot 1 256 1 0 4 (Some 0) 1)) ∷ bound_twice
 
 -- a look that answers the generation before
 abbrev pub looks_at_the_generation_before : List Entry
 looks_at_the_generation_before = entry 5 (Vcpu 0) (Look 6 None Shared None) ∷ at 6 one_read
+
+-- a fault that finds a marked slot and leaves the guest
+abbrev pub exits_by_a_marked_slot : List Entry
+exits_by_a_marked_slot = entry 8 (Vcpu 0) (Left (MemoryFault 0 0 4096)) ∷ at 11 marked_slot
+
+-- a fault that finds a marked slot and installs its page
+abbrev pub installs_by_a_marked_slot : List Entry
+installs_by_a_marked_slot = entry 9 (Vcpu 0) (Install 0 Small) ∷ entry 8 (Vcpu 0) (Get (User 0) 0) ∷ at 11 marked_slot
+
+-- a deletion that doesn't mark its slot in the turn of its Begin
+abbrev pub deletes_without_a_mark : List Entry
+deletes_without_a_mark = entry 4 (Caller 0) Acked ∷ at 5 marked_slot
+
+-- a slot that stays marked after its move, so that a fault retries
+abbrev pub keeps_the_mark : List Entry
+keeps_the_mark = entry 11 (Vcpu 0) Retry ∷ at 15 move_and_deletion

@@ -6,13 +6,14 @@ ghost use Rattle.gm_flat.specs.RightHistory.{Right};
 ghost use Rattle.gm_laws.specs.Conversion.{conversion, conversion_orders};
 ghost use Rattle.gm_laws.specs.FlushPending.{flush_pending, flush_pending_orders, flush_pending_turns};
 ghost use Rattle.gm_laws.specs.HeldPage.{held_page, held_page_orders};
+ghost use Rattle.gm_laws.specs.MarkedSlot.{marked_slot, marked_slot_orders};
 ghost use Rattle.gm_laws.specs.MixedBlock.{mixed_block, mixed_block_orders};
 ghost use Rattle.gm_laws.specs.MoveAndDeletion.{move_and_deletion, move_and_deletion_orders};
 ghost use Rattle.gm_laws.specs.OneRead.{one_read, one_read_orders, one_read_turns};
 ghost use Rattle.gm_laws.specs.PopulationAndClose.{population_and_close, population_and_close_orders};
 ghost use Rattle.gm_laws.specs.Ruled.{Ruled};
 ghost use Rattle.gm_laws.specs.Smallest.{one_caller_orders, smallest, smallest_orders};
-ghost use Rattle.gm_laws.specs.WrongBodies.{always_retries, answers_before_acked, asks_only_where_a_leaf_went, block_leaf_beside_a_change, bound_twice_orders, edges_not_renewed, exits_by_the_miss, frees_a_held_page, hole_twice_orders, keeps_old_words, leaves_the_block_leaf, looks_at_the_generation_before, never_compares, one_frame_orders, overlooks_the_last_page, resets_the_range, two_brackets_orders};
+ghost use Rattle.gm_laws.specs.WrongBodies.{always_retries, answers_before_acked, asks_only_where_a_leaf_went, block_leaf_beside_a_change, bound_twice_orders, deletes_without_a_mark, edges_not_renewed, exits_by_a_marked_slot, exits_by_the_miss, frees_a_held_page, hole_twice_orders, installs_by_a_marked_slot, keeps_old_words, keeps_the_mark, leaves_the_block_leaf, looks_at_the_generation_before, never_compares, one_frame_orders, other_page_orders, overlooks_the_last_page, resets_the_range, two_brackets_orders};
 
 /// The histories of worked rows follow the tables, so they are right.
 pub fn worked_rows_follow_the_tables()
@@ -21,13 +22,14 @@ pub fn worked_rows_follow_the_tables()
     ensures held_page_row { Ruled held_page_orders held_page }
     ensures flush_pending_row { Ruled flush_pending_orders flush_pending }
     ensures mixed_block_row { Ruled mixed_block_orders mixed_block }
+    ensures marked_slot_row { Ruled marked_slot_orders marked_slot }
     ensures move_and_deletion_row { Ruled move_and_deletion_orders move_and_deletion }
     ensures population_and_close_row { Ruled population_and_close_orders population_and_close }
 {}
 
 /// A history that a wrong body would write isn't right.
 pub fn wrong_bodies_are_refused()
-    ensures never_compares_body { Right conversion_orders never_compares → ⊥ }
+    ensures never_compares_body { Right other_page_orders never_compares → ⊥ }
     ensures resets_the_range_body { Right two_brackets_orders resets_the_range → ⊥ }
     ensures asks_only_where_a_leaf_went_body { Right flush_pending_orders asks_only_where_a_leaf_went → ⊥ }
     ensures frees_a_held_page_body { Right held_page_orders frees_a_held_page → ⊥ }
@@ -39,6 +41,10 @@ pub fn wrong_bodies_are_refused()
     ensures answers_before_acked_body { Right flush_pending_orders answers_before_acked → ⊥ }
     ensures exits_by_the_miss_body { Right hole_twice_orders exits_by_the_miss → ⊥ }
     ensures overlooks_the_last_page_body { Right bound_twice_orders overlooks_the_last_page → ⊥ }
+    ensures exits_by_a_marked_slot_body { Right marked_slot_orders exits_by_a_marked_slot → ⊥ }
+    ensures installs_by_a_marked_slot_body { Right marked_slot_orders installs_by_a_marked_slot → ⊥ }
+    ensures deletes_without_a_mark_body { Right marked_slot_orders deletes_without_a_mark → ⊥ }
+    ensures keeps_the_mark_body { Right move_and_deletion_orders keeps_the_mark → ⊥ }
     ensures looks_at_the_generation_before_body { Right one_read_orders looks_at_the_generation_before → ⊥ }
 {}
 
