@@ -57,3 +57,40 @@ fn blocks_are_aligned(rt: HostRuntime) -> Result<(), Fail> {
     }
     Ok(())
 }
+
+#[test]
+fn agrees_with_an_array(rt: HostRuntime) -> Result<(), Fail> {
+    let mut map = Radix::new(rt.alloc());
+    let mut array = [None; 64];
+    let mut seed: u64 = 1;
+    for step in 0..600 {
+        seed = seed
+            .wrapping_mul(6_364_136_223_846_793_005)
+            .wrapping_add(1_442_695_040_888_963_407);
+        let index = (seed >> 33) % 64;
+        if seed >> 62 == 0 {
+            let hi = (index + 7).min(64);
+            let mut gone: u64 = 0;
+            for taken in index..hi {
+                if array[taken as usize].is_some() {
+                    gone = gone.wrapping_add(1);
+                }
+                array[taken as usize] = None;
+            }
+            assert_eq!(rt; map.discard(index, hi), gone);
+        } else {
+            map.reserve(1).ok().ok_or("memory")?;
+            map.insert(index, step);
+            array[index as usize] = Some(step);
+        }
+        let mut free: u64 = 64;
+        for read in (0..64).rev() {
+            assert_eq!(rt; map.get(read), array[read as usize]);
+            if array[read as usize].is_none() {
+                free = read;
+            }
+        }
+        assert_eq!(rt; map.first_gap(0), free);
+    }
+    Ok(())
+}
