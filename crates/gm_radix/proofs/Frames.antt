@@ -11,7 +11,7 @@ use Rattle.gm_radix.specs.declared.node.Parts.{Parts}
 use Rattle.gm_radix.specs.Entries.{put}
 use Rattle.gm_radix.specs.Nodes.{node_at, first_of, end_of, Holds, leaf, fork, under, IsPart, Keeps, entries_of, HoldsRest, IsRest, StandsBeside, nodes_of}
 use Rattle.gm_radix.proofs.Held.{Holds-order, Holds-some, Holds-wider, Holds-rises, under-Holds, AtFork}
-use Rattle.gm_radix.proofs.Lists.{put_before, put_after}
+use Rattle.gm_radix.proofs.Lists.{put_before, put_after, length-Rises}
 
 module _ {V : Type 0} where
   -- the node under a tree's key is within its bounds
@@ -19,7 +19,7 @@ module _ {V : Type 0} where
   Holds-inside node is (leaf {lo = lo} {hi = hi} {index = i} {value = v} found low high) =
       let same : Leaf i v ≡ node = cc in
       subst (λ (n : Node V). (lo ≤ first_of n) × (end_of n ≤ hi)) same (low, omega arith)
-  Holds-inside node is (fork {lo = lo} {hi = hi} {parts = p} found low high l r e) =
+  Holds-inside node is (fork {lo = lo} {hi = hi} {parts = p} found low high count l r e) =
       let same : Fork p ≡ node = cc in
       subst (λ (n : Node V). (lo ≤ first_of n) × (end_of n ≤ hi)) same (low, high)
 
@@ -28,17 +28,17 @@ module _ {V : Type 0} where
   Holds-tight {slots} {key} node is (leaf {index = i} {value = v} found low high) =
       let same : Leaf i v ≡ node = cc in
       subst (λ (n : Node V). Holds slots key (first_of n) (end_of n) ((i, v) ∷ [])) same (leaf found (omega arith) (omega arith))
-  Holds-tight {slots} {key} {entries = es} node is (fork {parts = p} found low high l r e) =
+  Holds-tight {slots} {key} {entries = es} node is (fork {parts = p} found low high count l r e) =
       let same : Fork p ≡ node = cc in
-      subst (λ (n : Node V). Holds slots key (first_of n) (end_of n) es) same (fork found (omega arith) (omega arith) l r e)
+      subst (λ (n : Node V). Holds slots key (first_of n) (end_of n) es) same (fork found (omega arith) (omega arith) count l r e)
 
   -- a tree stays where each node within its bounds does
   pub Holds-stays : {old new : List (Option (Node V))} {key lo hi : ℕ} {entries : List (ℕ × V)} → ((k : ℕ) (n : Node V) → node_at old k ≡ Some n → lo ≤ first_of n → first_of n < end_of n → end_of n ≤ hi → node_at new k ≡ Some n) → Holds old key lo hi entries → Holds new key lo hi entries
   Holds-stays s (leaf found low high) = leaf (s _ _ found low (omega arith) (omega arith)) low high
-  Holds-stays s (fork found low high l r is) =
+  Holds-stays s (fork found low high count l r is) =
       let a = Holds-order l in
       let b = Holds-order r in
-      fork (s _ _ found low (omega arith) high) low high
+      fork (s _ _ found low (omega arith) high) low high count
       (Holds-stays (λ k n f x y z. s k n f (omega arith) y (omega arith)) l)
       (Holds-stays (λ k n f x y z. s k n f (omega arith) y (omega arith)) r)
       is
@@ -74,17 +74,21 @@ module _ {V : Type 0} where
   pub Keeps-then : {first second third : List (Option (Node V))} {lo hi : ℕ} → Keeps first second lo hi → Keeps second third lo hi → Keeps first third lo hi
   Keeps-then k m = record { outside = λ key node found o. m.outside key node (k.outside key node found o) o }
 
--- a fork of which one part changes
+-- a fork of which one part changes, and then its count
 module _ {V : Type 0} where
-  pub fork_left : {old new : List (Option (Node V))} {key lo hi : ℕ} {entries left : List (ℕ × V)} {parts : Parts} → AtFork old key lo hi entries parts → node_at old key ≡ Some (Fork parts) → Keeps old new parts.block.first parts.block.pivot → Holds new parts.left parts.block.first parts.block.pivot left → Holds new key lo hi (left ++ under old parts.right)
-  fork_left {key = key} {parts = p} f found k l =
+  pub fork_left : {old : List (Option (Node V))} {mid new : Slab (Node V)} {key lo hi : ℕ} {entries left : List (ℕ × V)} {parts : Parts} (count : ℕ) → AtFork old key lo hi entries parts → node_at mid.slots key ≡ Some (Fork parts) → Keeps old mid.slots parts.block.first parts.block.pivot → Holds mid.slots parts.left parts.block.first parts.block.pivot left → Updates mid new key (Some (Fork (record parts { count = count }))) → count ≡ length (left ++ under old parts.right) → Holds new.slots key lo hi (left ++ under old parts.right)
+  fork_left {parts = p} count f found k l u is =
+      let a = Holds-order l in
       let b = Holds-order f.right.holds in
-      fork (k.outside key (Fork p) found (inr b)) f.low f.high l (Holds-apart k (inr (omega arith)) f.right.holds) refl
+      let r = Holds-apart k (inr (omega arith)) f.right.holds in
+      fork u.changed f.low f.high is (Holds-updates (Fork p) u found (inr b) l) (Holds-updates (Fork p) u found (inl a) r) refl
 
-  pub fork_right : {old new : List (Option (Node V))} {key lo hi : ℕ} {entries right : List (ℕ × V)} {parts : Parts} → AtFork old key lo hi entries parts → node_at old key ≡ Some (Fork parts) → Keeps old new parts.block.pivot parts.block.end → Holds new parts.right parts.block.pivot parts.block.end right → Holds new key lo hi (under old parts.left ++ right)
-  fork_right {key = key} {parts = p} f found k r =
+  pub fork_right : {old : List (Option (Node V))} {mid new : Slab (Node V)} {key lo hi : ℕ} {entries right : List (ℕ × V)} {parts : Parts} (count : ℕ) → AtFork old key lo hi entries parts → node_at mid.slots key ≡ Some (Fork parts) → Keeps old mid.slots parts.block.pivot parts.block.end → Holds mid.slots parts.right parts.block.pivot parts.block.end right → Updates mid new key (Some (Fork (record parts { count = count }))) → count ≡ length (under old parts.left ++ right) → Holds new.slots key lo hi (under old parts.left ++ right)
+  fork_right {parts = p} count f found k r u is =
       let a = Holds-order f.left.holds in
-      fork (k.outside key (Fork p) found (inl a)) f.low f.high (Holds-apart k (inl (omega arith)) f.left.holds) r refl
+      let b = Holds-order r in
+      let l = Holds-apart k (inl (omega arith)) f.left.holds in
+      fork u.changed f.low f.high is (Holds-updates (Fork p) u found (inr b) l) (Holds-updates (Fork p) u found (inl a) r) refl
 
 -- what is left of a tree
 module _ {V : Type 0} where
@@ -112,10 +116,10 @@ module _ {V : Type 0} where
 module _ {V : Type 0} where
   pub Holds-moved : {old new : List (Option (Node V))} {key lo hi : ℕ} {entries : List (ℕ × V)} (moved : ℕ) → node_at new moved ≡ node_at old key → ((k : ℕ) (n : Node V) → node_at old k ≡ Some n → k ≢ key → node_at new k ≡ Some n) → Holds old key lo hi entries → Holds new moved lo hi entries
   Holds-moved moved same stays (leaf found low high) = leaf (same ∙ found) low high
-  Holds-moved {old} moved same stays (fork {key = key} {parts = p} found low high l r is) =
+  Holds-moved {old} moved same stays (fork {key = key} {parts = p} found low high count l r is) =
       let a = Holds-order l in
       let b = Holds-order r in
-      fork (same ∙ found) low high
+      fork (same ∙ found) low high count
       (Holds-stays (λ k n f x y z. stays k n f (λ (e : k ≡ key). other k n f e (inl (omega arith)))) l)
       (Holds-stays (λ k n f x y z. stays k n f (λ (e : k ≡ key). other k n f e (inr (omega arith)))) r)
       is
@@ -129,8 +133,8 @@ module _ {V : Type 0} where
 
 -- a fork over two trees
 module _ {V : Type 0} where
-  pub fork_over : {slots : List (Option (Node V))} {key : ℕ} {parts : Parts} {left right : List (ℕ × V)} → node_at slots key ≡ Some (Fork parts) → Holds slots parts.left parts.block.first parts.block.pivot left → Holds slots parts.right parts.block.pivot parts.block.end right → Holds slots key parts.block.first parts.block.end (left ++ right)
-  fork_over found l r = fork found (omega arith) (omega arith) l r refl
+  pub fork_over : {slots : List (Option (Node V))} {key : ℕ} {parts : Parts} {left right : List (ℕ × V)} → node_at slots key ≡ Some (Fork parts) → Holds slots parts.left parts.block.first parts.block.pivot left → Holds slots parts.right parts.block.pivot parts.block.end right → parts.count ≡ length (left ++ right) → Holds slots key parts.block.first parts.block.end (left ++ right)
+  fork_over found l r count = fork found (omega arith) (omega arith) count l r refl
 
   -- a node is copied to a vacant key, one is put under a second vacant key, and one over the first
   pub record Moves (s0 s1 s2 s3 : Slab (Node V)) (key moved beside : ℕ) (node one two : Node V) : Type 0 where
@@ -162,29 +166,44 @@ module _ {V : Type 0} where
       let stays : node_at s1.slots key ≡ Some node = m.copies.others key (λ (e : key ≡ moved). cc) ∙ found in
       m.writes.others beside (λ (e : beside ≡ key). cc) ∙ m.adds.changed
 
-  pub part_before : {s0 s1 s2 s3 : Slab (Node V)} {key moved beside : ℕ} {node : Node V} (block : Block) (index : ℕ) (value : V) → Moves s0 s1 s2 s3 key moved beside node (Leaf index value) (Fork (record { block = block; left = beside; right = moved })) → block.first ≤ index → index < block.pivot → IsPart s0.slots key block.pivot block.end → Holds s3.slots key block.first block.end (put index value (under s0.slots key))
-  part_before {s0} {s3 = s3} {key = key} {moved = moved} block index value m p q h =
+  pub part_before : {s0 s1 s2 s3 : Slab (Node V)} {key moved beside : ℕ} {node : Node V} (block : Block) (count index : ℕ) (value : V) → Moves s0 s1 s2 s3 key moved beside node (Leaf index value) (Fork (record { block = block; left = beside; right = moved; count = count + 1 })) → count ≡ length (under s0.slots key) → block.first ≤ index → index < block.pivot → IsPart s0.slots key block.pivot block.end → Holds s3.slots key block.first block.end (put index value (under s0.slots key))
+  part_before {s0} {s3 = s3} {key = key} {moved = moved} block count index value m c p q h =
       subst (λ (es : List (ℕ × V)). Holds s3.slots key block.first block.end es)
       (put_before index value block.pivot block.end (under s0.slots key) q (Holds-rises h))
-      (fork_over m.writes.changed (leaf (moves_beside m) p q) (Holds-moved moved (moves_moved m ∙ sym m.found) (moves_others m) h))
+      (fork_over m.writes.changed (leaf (moves_beside m) p q) (Holds-moved moved (moves_moved m ∙ sym m.found) (moves_others m) h) (omega arith))
 
-  pub part_after : {s0 s1 s2 s3 : Slab (Node V)} {key moved beside : ℕ} {node : Node V} (block : Block) (index : ℕ) (value : V) → Moves s0 s1 s2 s3 key moved beside node (Leaf index value) (Fork (record { block = block; left = moved; right = beside })) → IsPart s0.slots key block.first block.pivot → block.pivot ≤ index → index < block.end → Holds s3.slots key block.first block.end (put index value (under s0.slots key))
-  part_after {s0} {s3 = s3} {key = key} {moved = moved} block index value m h p q =
+  pub part_after : {s0 s1 s2 s3 : Slab (Node V)} {key moved beside : ℕ} {node : Node V} (block : Block) (count index : ℕ) (value : V) → Moves s0 s1 s2 s3 key moved beside node (Leaf index value) (Fork (record { block = block; left = moved; right = beside; count = count + 1 })) → count ≡ length (under s0.slots key) → IsPart s0.slots key block.first block.pivot → block.pivot ≤ index → index < block.end → Holds s3.slots key block.first block.end (put index value (under s0.slots key))
+  part_after {s0} {s3 = s3} {key = key} {moved = moved} block count index value m c h p q =
       subst (λ (es : List (ℕ × V)). Holds s3.slots key block.first block.end es)
       (put_after index value block.first block.pivot (under s0.slots key) p (Holds-rises h))
-      (fork_over m.writes.changed (Holds-moved moved (moves_moved m ∙ sym m.found) (moves_others m) h) (leaf (moves_beside m) p q))
+      (fork_over m.writes.changed (Holds-moved moved (moves_moved m ∙ sym m.found) (moves_others m) h) (leaf (moves_beside m) p q) (omega (arith, length-append (under s0.slots key) ((index, value) ∷ []))))
 
-  pub nodes_of-put_beside : (slots : List (Option (Node V))) (key : ℕ) (block : Block) (index : ℕ) (value : V) → StandsBeside slots key block index → nodes_of (put index value (under slots key)) ≡ nodes_of (under slots key) + 2
-  nodes_of-put_beside slots key block index value b =
+  -- an entry beside a tree is a new one
+  pub length-put_beside : (slots : List (Option (Node V))) (key : ℕ) (block : Block) (index : ℕ) (value : V) → StandsBeside slots key block index → length (put index value (under slots key)) ≡ length (under slots key) + 1
+  length-put_beside slots key block index value b =
       let es = under slots key in
       elim b [
         | inl h ↦
             let e = ap (λ (x : List (ℕ × V)). length x) (put_before index value block.pivot block.end es h.1 (Holds-rises h.2)) in
-            omega (arith, e, Holds-some h.2)
+            omega (arith, e)
         | inr h ↦
             let e = ap (λ (x : List (ℕ × V)). length x) (put_after index value block.first block.pivot es h.1 (Holds-rises h.0)) in
-            omega (arith, e, length-append es ((index, value) ∷ []), Holds-some h.0)
+            omega (arith, e, length-append es ((index, value) ∷ []))
       ]
+
+  -- there are fewer entries in one half of a block than indexes in both
+  pub length-beside : (slots : List (Option (Node V))) (key : ℕ) (block : Block) (index : ℕ) → StandsBeside slots key block index → length (under slots key) < block.end
+  length-beside slots key block index b =
+      let es = under slots key in
+      elim b [
+        | inl h ↦ let o = Holds-order h.2 in omega (arith, length-Rises block.pivot block.end es (Holds-rises h.2))
+        | inr h ↦ let o = Holds-order h.0 in omega (arith, length-Rises block.first block.pivot es (Holds-rises h.0))
+      ]
+
+  pub nodes_of-put_beside : (slots : List (Option (Node V))) (key : ℕ) (block : Block) (index : ℕ) (value : V) → StandsBeside slots key block index → nodes_of (put index value (under slots key)) ≡ nodes_of (under slots key) + 2
+  nodes_of-put_beside slots key block index value b =
+      let more = length-put_beside slots key block index value b in
+      elim b [ inl h ↦ omega (arith, Holds-some h.2) | inr h ↦ omega (arith, Holds-some h.0) ]
 
   pub StandsBeside-block : {slots : List (Option (Node V))} {key lo hi : ℕ} (node : Node V) (block : Block) (index : ℕ) → node_at slots key ≡ Some node → IsPart slots key lo hi → ((block.first ≤ index) × (index < block.pivot) × (block.pivot ≤ first_of node) × (end_of node ≤ block.end)) ⊎ ((block.first ≤ first_of node) × (end_of node ≤ block.pivot) × (block.pivot ≤ index) × (index < block.end)) → StandsBeside slots key block index
   StandsBeside-block node block index found h o =

@@ -15,20 +15,20 @@ module _ {V : Type 0} where
   -- a tree has indexes
   pub Holds-order : {slots : List (Option (Node V))} {key lo hi : ℕ} {entries : List (ℕ × V)} → Holds slots key lo hi entries → lo < hi
   Holds-order (leaf found low high) = omega arith
-  Holds-order (fork found low high l r is) = let a = Holds-order l in let b = Holds-order r in omega arith
+  Holds-order (fork found low high count l r is) = let a = Holds-order l in let b = Holds-order r in omega arith
 
   -- and entries
   pub Holds-some : {slots : List (Option (Node V))} {key lo hi : ℕ} {entries : List (ℕ × V)} → Holds slots key lo hi entries → 0 < length entries
   Holds-some (leaf found low high) = omega arith
-  Holds-some (fork {left = ls} {right = rs} found low high l r is) = rw is (omega (arith, length-append ls rs, Holds-some l))
+  Holds-some (fork {left = ls} {right = rs} found low high count l r is) = rw is (omega (arith, length-append ls rs, Holds-some l))
 
   pub Holds-wider : {slots : List (Option (Node V))} {key lo hi : ℕ} {entries : List (ℕ × V)} (low high : ℕ) → low ≤ lo → hi ≤ high → Holds slots key lo hi entries → Holds slots key low high entries
   Holds-wider a b p q (leaf found low high) = leaf found (omega arith) (omega arith)
-  Holds-wider a b p q (fork found low high l r is) = fork found (omega arith) (omega arith) l r is
+  Holds-wider a b p q (fork found low high count l r is) = fork found (omega arith) (omega arith) count l r is
 
   pub Holds-rises : {slots : List (Option (Node V))} {key lo hi : ℕ} {entries : List (ℕ × V)} → Holds slots key lo hi entries → Rises lo hi entries
   Holds-rises (leaf found low high) = ((low, high), tt)
-  Holds-rises (fork {lo = lo} {hi = hi} {parts = p} {left = ls} {right = rs} found low high l r is) =
+  Holds-rises (fork {lo = lo} {hi = hi} {parts = p} {left = ls} {right = rs} found low high count l r is) =
       let a = Holds-order l in
       let b = Holds-order r in
       rw is (Rises-wider p.block.first p.block.end lo hi (ls ++ rs) low high (Rises-append p.block.first p.block.pivot p.block.end ls rs (omega arith) (omega arith) (Holds-rises l) (Holds-rises r)))
@@ -38,7 +38,7 @@ module _ {V : Type 0} where
   unfolding read
   read-Holds zero p h = let o = Holds-order h in absurd (omega arith)
   read-Holds {slots} (suc depth) p (leaf found low high) = ap (λ (n : Option (Node V)). entries_in n (read depth slots)) found
-  read-Holds {slots} (suc depth) p (fork {parts = q} {left = ls} {right = rs} found low high l r is) =
+  read-Holds {slots} (suc depth) p (fork {parts = q} {left = ls} {right = rs} found low high count l r is) =
       let a = Holds-order l in
       let b = Holds-order r in
       ap (λ (n : Option (Node V)). entries_in n (read depth slots)) found ∙ (rw (read-Holds depth (omega arith) l, read-Holds depth (omega arith) r) (sym is))
@@ -52,7 +52,7 @@ module _ {V : Type 0} where
   -- a tree is as wide as its bounds at most
   pub width-Holds : {slots : List (Option (Node V))} {key lo hi : ℕ} {entries : List (ℕ × V)} → Holds slots key lo hi entries → width_at slots key ≤ hi - lo
   width-Holds {lo = lo} {hi = hi} (leaf found low high) = subst (λ (n : Option (Node V)). width_in n ≤ hi - lo) (sym found) (omega arith)
-  width-Holds {lo = lo} {hi = hi} (fork found low high l r is) = subst (λ (n : Option (Node V)). width_in n ≤ hi - lo) (sym found) (omega arith)
+  width-Holds {lo = lo} {hi = hi} (fork found low high count l r is) = subst (λ (n : Option (Node V)). width_in n ≤ hi - lo) (sym found) (omega arith)
 
   -- what is known of a tree with a leaf under its key
   pub record AtLeaf (lo hi : ℕ) (entries : List (ℕ × V)) (index : ℕ) (value : V) : Type 0 where
@@ -65,7 +65,7 @@ module _ {V : Type 0} where
       let same : i ≡ index = cc in
       let also : v ≡ value = cc in
       record { low = omega arith; high = omega arith; is = cc }
-  at_leaf index value found (fork other low high l r is) = absurd (cc)
+  at_leaf index value found (fork other low high count l r is) = absurd (cc)
 
   -- what is known of one of a fork's parts
   pub record AtPart (slots : List (Option (Node V))) (key part lo hi : ℕ) : Type 0 where
@@ -83,6 +83,8 @@ module _ {V : Type 0} where
     pub right : AtPart slots key parts.right parts.block.pivot parts.block.end
     pub width : width_at slots key ≡ parts.block.end - parts.block.first
     pub is : entries ≡ under slots parts.left ++ under slots parts.right
+    pub count : parts.count ≡ length entries
+    pub rises : Rises parts.block.first parts.block.end entries
 
   pub at_part : {slots : List (Option (Node V))} {key part lo hi : ℕ} {entries : List (ℕ × V)} → hi ≤ PAGE_LIMIT → hi - lo < width_at slots key → Holds slots part lo hi entries → AtPart slots key part lo hi
   at_part {slots} {part = part} {lo = lo} {hi = hi} limit less h =
@@ -98,7 +100,7 @@ module _ {V : Type 0} where
 
   pub at_fork : {slots : List (Option (Node V))} {key lo hi : ℕ} {entries : List (ℕ × V)} (parts : Parts) → hi ≤ PAGE_LIMIT → node_at slots key ≡ Some (Fork parts) → Holds slots key lo hi entries → AtFork slots key lo hi entries parts
   at_fork parts p found (leaf other low high) = absurd (cc)
-  at_fork {slots} {key} {lo} {hi} {entries} parts p found (fork {parts = q} {left = ls} {right = rs} other low high l r is) =
+  at_fork {slots} {key} {lo} {hi} {entries} parts p found (fork {parts = q} {left = ls} {right = rs} other low high count l r is) =
       let same : q ≡ parts = cc in
       let a = Holds-order l in
       let b = Holds-order r in
@@ -110,4 +112,6 @@ module _ {V : Type 0} where
         right = at_part (omega arith) (omega arith) r;
         width = width;
         is = rw (under-Holds (omega arith) l, under-Holds (omega arith) r) is;
+        count = count;
+        rises = rw is (Rises-append q.block.first q.block.pivot q.block.end ls rs (omega arith) (omega arith) (Holds-rises l) (Holds-rises r));
       })

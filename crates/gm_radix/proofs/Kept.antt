@@ -1,13 +1,14 @@
 -- What the map keeps of its nodes.
-use Rattle.std.proofs.Common.{◌≡◌, ℕ, suc, ◌+◌, ◌*◌, ◌≤◌, Bool, true, false, List, [], ◌∷◌, length, arith}
-use Rattle.std.specs.Prelude.{None, Some, nat_eq, nat_lt, if◌then◌else◌}
+use Rattle.std.proofs.Common.{◌≡◌, ℕ, ◌+◌, ◌*◌, ◌≤◌, inr, List, ap, sym, ◌∙◌, arith}
+use Rattle.std.specs.Prelude.{None, Some}
 use Rattle.std.specs.declared.option.Option.{Option}
 use Rattle.gm_base.specs.declared.numbers.TheConstants.{PAGE_LIMIT}
 use Rattle.gm_radix.specs.declared.node.Node.{Node}
-use Rattle.gm_radix.specs.Entries.{put, Rises}
+use Rattle.gm_radix.specs.Entries.{Indexed, lookup, Rises}
 use Rattle.gm_radix.specs.Nodes.{entries_of, HoldsRest, IsKept, IsRest, nodes_of}
 use Rattle.gm_radix.proofs.Frames.{entries_of-HoldsRest, IsRest-HoldsRest}
 use Rattle.gm_radix.proofs.Held.{Holds-rises}
+use Rattle.gm_radix.proofs.Lists.{lookup-outside}
 
 module _ {V : Type 0} where
   pub entries_of-rises : (slots : List (Option (Node V))) (root : Option ℕ) → IsRest slots root 0 PAGE_LIMIT → Rises 0 PAGE_LIMIT (entries_of slots root)
@@ -22,12 +23,7 @@ module _ {V : Type 0} where
         room = r;
       }
 
-  -- a put adds one entry at most
-  pub length-put : (index : ℕ) (value : V) (es : List (ℕ × V)) → length (put index value es) ≤ length es + 1
-  length-put index value [] = omega arith
-  length-put index value (e ∷ es) = cases (nat_lt index e.0) (nat_eq e.0 index) (length-put index value es)
-    where
-      cases : (a b : Bool) → length (put index value es) ≤ length es + 1 → length (if a then (index, value) ∷ e ∷ es else (if b then (index, value) ∷ es else e ∷ put index value es)) ≤ suc (length es) + 1
-      cases true b p = omega arith
-      cases false true p = omega arith
-      cases false false p = omega arith
+  -- a map has no value at an index past the limit
+  pub lookup-past : (slots : List (Option (Node V))) (root : Option ℕ) (map : Indexed V) (index : ℕ) → entries_of slots root ≡ map.entries → IsRest slots root 0 PAGE_LIMIT → PAGE_LIMIT ≤ index → lookup index map.entries ≡ None
+  lookup-past slots root map index is h p =
+      ap (λ (es : List (ℕ × V)). lookup index es) (sym is) ∙ lookup-outside index 0 PAGE_LIMIT (entries_of slots root) (entries_of-rises slots root h) (inr p)

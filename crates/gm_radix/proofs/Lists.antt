@@ -1,5 +1,5 @@
 -- Lists of entries by rising index, and what a look-up, a put and a removal do to two of them end to end.
-use Rattle.std.proofs.Common.{◌≡◌, ℕ, ◌+◌, ◌-◌, ◌<◌, ◌≤◌, ◌⊎◌, inl, inr, List, [], ◌∷◌, ◌++◌, length, refl, ap, sym, ◌∙◌, arith, Bool, true, false, append_assoc, length-append}
+use Rattle.std.proofs.Common.{◌≡◌, ℕ, suc, ◌+◌, ◌-◌, ◌<◌, ◌≤◌, ◌⊎◌, inl, inr, List, [], ◌∷◌, ◌++◌, length, refl, ap, sym, ◌∙◌, arith, Bool, true, false, append_assoc, length-append}
 use Rattle.std.specs.Prelude.{None, Some, IsSome, nat_eq, nat_lt, if◌then◌else◌}
 use Rattle.std.specs.declared.option.Option.{Option}
 use Rattle.std.proofs.lemmas.Bool.{lt-ltb, le-ltb, ne_eqb, eq-eqb, cases_lt}
@@ -62,7 +62,6 @@ module _ {V : Type 0} where
   put-right index value lo pivot (e ∷ es) r p h =
       rw (le-ltb index e.0 (omega arith), ne_eqb e.0 index (λ q. omega arith)) (ap (λ (x : List (ℕ × V)). e ∷ x) (put-right index value (e.0 + 1) pivot es r p h.1))
 
-  -- a put within the bounds
   -- a removal takes from each of two lists
   pub without-append : (lo hi : ℕ) (l r : List (ℕ × V)) → without lo hi (l ++ r) ≡ without lo hi l ++ without lo hi r
   without-append lo hi [] r = refl
@@ -72,7 +71,7 @@ module _ {V : Type 0} where
       cases true q = q
       cases false q = ap (λ (x : List (ℕ × V)). e ∷ x) q
 
-  not_within : (lo hi a b : ℕ) (e : ℕ × V) → (a ≤ e.0) × (e.0 < b) → (b ≤ lo) ⊎ (hi ≤ a) → is_within lo hi e ≡ false
+  pub not_within : (lo hi a b : ℕ) (e : ℕ × V) → (a ≤ e.0) × (e.0 < b) → (b ≤ lo) ⊎ (hi ≤ a) → is_within lo hi e ≡ false
   not_within lo hi a b e h o = elim o [ inl p ↦ test (inl (omega arith)) | inr q ↦ test (inr (omega arith)) ]
     where
       test : (e.0 < lo) ⊎ (hi ≤ e.0) → is_within lo hi e ≡ false
@@ -157,3 +156,13 @@ module _ {V : Type 0} where
   pub within-append_after : (lo hi : ℕ) (l r : List (ℕ × V)) (front first second : List (ℕ × V)) → first ≡ front ++ within lo hi l → second ≡ first ++ within lo hi r → second ≡ front ++ within lo hi (l ++ r)
   within-append_after lo hi l r front first second p q =
       q ∙ (ap (λ (x : List (ℕ × V)). x ++ within lo hi r) p ∙ (append_assoc front (within lo hi l) (within lo hi r) ∙ ap (λ (x : List (ℕ × V)). front ++ x) (sym (within-append lo hi l r))))
+
+  -- a put adds one entry at most
+  pub length-put : (index : ℕ) (value : V) (es : List (ℕ × V)) → length (put index value es) ≤ length es + 1
+  length-put index value [] = omega arith
+  length-put index value (e ∷ es) = cases (nat_lt index e.0) (nat_eq e.0 index) (length-put index value es)
+    where
+      cases : (a b : Bool) → length (put index value es) ≤ length es + 1 → length (if a then (index, value) ∷ e ∷ es else (if b then (index, value) ∷ es else e ∷ put index value es)) ≤ suc (length es) + 1
+      cases true b p = omega arith
+      cases false true p = omega arith
+      cases false false p = omega arith

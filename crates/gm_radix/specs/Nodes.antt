@@ -22,10 +22,11 @@ module _ {V : Type 0} where
   end_of (Leaf index value) = index + 1
   end_of (Fork parts) = parts.block.end
 
-  -- the node under the key holds these entries, and each node of its tree has its indexes from lo on and below hi
+  -- the node under the key holds these entries, each node of its tree has its indexes from lo on and below hi, and each
+  -- fork tells how many entries it has
   pub data Holds (slots : List (Option (Node V))) : ℕ → ℕ → ℕ → List (ℕ × V) → Type 0 where
     leaf : {key lo hi index : ℕ} {value : V} → node_at slots key ≡ Some (Leaf index value) → lo ≤ index → index < hi → Holds slots key lo hi ((index, value) ∷ [])
-    fork : {key lo hi : ℕ} {parts : Parts} {left right entries : List (ℕ × V)} → node_at slots key ≡ Some (Fork parts) → lo ≤ parts.block.first → parts.block.end ≤ hi → Holds slots parts.left parts.block.first parts.block.pivot left → Holds slots parts.right parts.block.pivot parts.block.end right → entries ≡ left ++ right → Holds slots key lo hi entries
+    fork : {key lo hi : ℕ} {parts : Parts} {left right entries : List (ℕ × V)} → node_at slots key ≡ Some (Fork parts) → lo ≤ parts.block.first → parts.block.end ≤ hi → parts.count ≡ length entries → Holds slots parts.left parts.block.first parts.block.pivot left → Holds slots parts.right parts.block.pivot parts.block.end right → entries ≡ left ++ right → Holds slots key lo hi entries
 
   -- the entries of a node, of which each part's key has these
   abbrev pub entries_in : Option (Node V) → (ℕ → List (ℕ × V)) → List (ℕ × V)

@@ -1,13 +1,13 @@
 //! The map.
 
-ghost use Rattle.std.specs.Prelude.{◌≡◌, ◌+◌, ◌<◌, ◌≤◌, ◌++◌, [], length, OnOk, OnErr, vec_len, vec_capacity};
+ghost use Rattle.std.specs.Prelude.{◌≡◌, ℕ, ◌+◌, ◌<◌, ◌≤◌, ◌++◌, [], length, IsTrue, IsSome, ◌↔◌, OnOk, OnErr, vec_len, vec_capacity};
 ghost use Rattle.gm_base.specs.declared.numbers.TheConstants.{PAGE_LIMIT};
-ghost use Rattle.gm_radix.specs.Entries.{lookup, put, within, without, Rises, IsFirstGap};
+ghost use Rattle.gm_radix.specs.Entries.{lookup, put, within, without, count_within, Rises, IsFirstGap};
 
 use crate::node::Node;
 use crate::tree;
-use slab::Slab;
 use gm_base::{NoMemory, PAGE_LIMIT};
+use slab::Slab;
 use std::alloc::Global;
 use std::marker::Model;
 
@@ -78,7 +78,9 @@ impl<V: Copy> Radix<V> {
         ensures spare { self.old.spare ≤ self.new.spare + 1 }
     {
         match self.root {
-            Some(key) => tree::insert(&mut self.nodes, key, 0, PAGE_LIMIT, index, value),
+            Some(key) => {
+                tree::insert(&mut self.nodes, key, 0, PAGE_LIMIT, index, value);
+            }
             None => self.root = Some(self.nodes.insert_reserved(Node::Leaf(index, value))),
         }
         self.spare -= 1;
@@ -114,7 +116,34 @@ impl<V: Copy> Radix<V> {
         }
     }
 
-    /// The first index from this one on that has no value. At most 2^52.
+    /// How many entries have an index that is at least `lo` and below `hi`. It visits at most two nodes at each depth,
+    /// whatever their number is.
+    pub fn count_in(&self, lo: u64, hi: u64) -> u64
+        ensures { result ≡ count_within lo hi self.now.entries }
+    {
+        match self.root {
+            Some(key) => tree::count_in(&self.nodes, key, 0, PAGE_LIMIT, lo, hi),
+            None => 0,
+        }
+    }
+
+    /// Whether an index that is at least `lo` and below `hi` has a value.
+    pub fn has_any(&self, lo: u64, hi: u64) -> bool
+        ensures { IsTrue result ↔ ((k : ℕ) × (lo ≤ k) × (k < hi) × IsSome (lookup k self.now.entries)) }
+    {
+        self.count_in(lo, hi) > 0
+    }
+
+    /// Whether each index that is at least `lo` and below `hi` has a value.
+    pub fn has_all(&self, lo: u64, hi: u64) -> bool
+        ensures { IsTrue result ↔ ((k : ℕ) → lo ≤ k → k < hi → IsSome (lookup k self.now.entries)) }
+    {
+        // The nodes are named for the proof alone: by their invariant no index past the limit has a value.
+        let _ = &self.nodes;
+        hi <= lo || lo < PAGE_LIMIT && hi <= self.first_gap(lo)
+    }
+
+    /// The first index from this one on that has no value. At most 2^52. Like `count_in` it costs the depth of the tree.
     pub fn first_gap(&self, index: u64) -> u64
         requires { index ≤ PAGE_LIMIT }
         ensures gap { IsFirstGap self.now.entries index result }

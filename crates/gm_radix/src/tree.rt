@@ -3,7 +3,7 @@
 ghost use Rattle.std.specs.Prelude.{◌≡◌, ℕ, ◌+◌, ◌<◌, ◌≤◌, ◌⊎◌, ◌++◌, Some, length, vec_len, vec_capacity};
 ghost use Rattle.slab.specs.Slab.{slab_len, ContainsKey, HasRoomFor, Updates};
 ghost use Rattle.gm_base.specs.declared.numbers.TheConstants.{PAGE_LIMIT};
-ghost use Rattle.gm_radix.specs.Entries.{lookup, put, within, without, gap_from};
+ghost use Rattle.gm_radix.specs.Entries.{lookup, put, within, without, count_within, gap_from};
 ghost use Rattle.gm_radix.specs.Nodes.{node_at, under, nodes_of, entries_of, Holds, HoldsRest, IsPart, IsRest, IsTree, Keeps, StandsBeside};
 
 use crate::block::{Block, block_over};
@@ -27,7 +27,8 @@ pub(crate) fn get<V: Copy>(nodes: &Slab<Node<V>>, key: usize, index: u64) -> Opt
     }
 }
 
-/// Past the indexes from this one on that have values, one after another.
+/// Past the indexes from this one on that have values, one after another. A block that is full has no gap, and past the
+/// first half of one the index is that of the second half's beginning, so at most two parts are visited at each depth.
 pub(crate) fn first_gap<V: Copy>(nodes: &Slab<Node<V>>, key: usize, index: u64) -> u64
     requires tree { IsTree nodes.now.slots key }
     requires limit { index ≤ PAGE_LIMIT }
@@ -37,14 +38,51 @@ pub(crate) fn first_gap<V: Copy>(nodes: &Slab<Node<V>>, key: usize, index: u64) 
     match nodes[key] {
         Node::Leaf(at, _) => if at == index { index + 1 } else { index },
         Node::Fork(parts) => {
-            if parts.block.pivot <= index {
+            let block = parts.block;
+            if index < block.first || block.end <= index {
+                return index;
+            }
+            if parts.count == block.end - block.first {
+                return block.end;
+            }
+            if block.pivot <= index {
                 return first_gap(nodes, parts.right, index);
             }
             let gap = first_gap(nodes, parts.left, index);
-            if gap < parts.block.pivot {
+            if gap < block.pivot {
                 return gap;
             }
             first_gap(nodes, parts.right, gap)
+        }
+    }
+}
+
+/// How many entries have an index from `lo` on and below `hi`. The tree has its indexes from `from` on and below `to`.
+pub(crate) fn count_in<V: Copy>(
+    nodes: &Slab<Node<V>>,
+    key: usize,
+    from: u64,
+    to: u64,
+    lo: u64,
+    hi: u64,
+) -> u64
+    requires tree { IsPart nodes.now.slots key from to }
+    requires limit { to ≤ PAGE_LIMIT }
+    ensures { result ≡ count_within lo hi (under nodes.now.slots key) }
+{
+    if to <= lo || hi <= from {
+        return 0;
+    }
+    match nodes[key] {
+        Node::Leaf(at, _) => if lo <= at && at < hi { 1 } else { 0 },
+        Node::Fork(parts) => {
+            let block = parts.block;
+            if lo <= block.first && block.end <= hi {
+                return parts.count;
+            }
+            let left = count_in(nodes, parts.left, block.first, block.pivot, lo, hi);
+            let right = count_in(nodes, parts.right, block.pivot, block.end, lo, hi);
+            left + right
         }
     }
 }
@@ -84,8 +122,8 @@ pub(crate) fn collect<V: Copy>(
     }
 }
 
-/// Puts the value at the index, in the place of the one that was there. The tree has its indexes from `from` on and below
-/// `to`.
+/// Puts the value at the index, in the place of the one that was there, and answers how many entries that adds. The tree
+/// has its indexes from `from` on and below `to`.
 pub(crate) fn insert<V: Copy>(
     nodes: &mut Slab<Node<V>>,
     key: usize,
@@ -93,7 +131,7 @@ pub(crate) fn insert<V: Copy>(
     to: u64,
     index: u64,
     value: V,
-)
+) -> u64
     requires tree { IsPart nodes.old.slots key from to }
     requires limit { to ≤ PAGE_LIMIT }
     requires low { from ≤ index }
@@ -101,6 +139,7 @@ pub(crate) fn insert<V: Copy>(
     requires room { HasRoomFor nodes.old 2 }
     ensures entries { Holds nodes.new.slots key from to (put index value (under nodes.old.slots key)) }
     ensures keeps { Keeps nodes.old.slots nodes.new.slots from to }
+    ensures added { result + length (under nodes.old.slots key) ≡ length (put index value (under nodes.old.slots key)) }
     ensures nodes { slab_len nodes.new + nodes_of (under nodes.old.slots key) ≡ slab_len nodes.old + nodes_of (put index value (under nodes.old.slots key)) }
     ensures capacity { nodes.new.capacity ≡ nodes.old.capacity }
 {
@@ -108,20 +147,27 @@ pub(crate) fn insert<V: Copy>(
         Node::Leaf(at, _) => {
             if at == index {
                 set(nodes, key, Node::Leaf(index, value));
+                0
             } else {
                 let block = block_beside(at, at + 1, index, from, to);
-                part(nodes, key, block, index, value);
+                part(nodes, key, block, 1, index, value);
+                1
             }
         }
         Node::Fork(parts) => {
             let block = parts.block;
             if index < block.first || block.end <= index {
                 let wider = block_beside(block.first, block.end, index, from, to);
-                part(nodes, key, wider, index, value);
+                part(nodes, key, wider, parts.count, index, value);
+                1
             } else if index < block.pivot {
-                insert(nodes, parts.left, block.first, block.pivot, index, value);
+                let added = insert(nodes, parts.left, block.first, block.pivot, index, value);
+                count_more(nodes, key, parts, added);
+                added
             } else {
-                insert(nodes, parts.right, block.pivot, block.end, index, value);
+                let added = insert(nodes, parts.right, block.pivot, block.end, index, value);
+                count_more(nodes, key, parts, added);
+                added
             }
         }
     }
@@ -174,27 +220,31 @@ pub(crate) fn discard<V: Copy>(
             let block = parts.block;
             let left = discard(nodes, parts.left, block.first, block.pivot, lo, hi);
             let right = discard(nodes, parts.right, block.pivot, block.end, lo, hi);
+            let gone = left.gone + right.gone;
+            let count = parts.count - gone;
             Rest {
-                key: join(nodes, key, parts, left.key, right.key),
-                gone: left.gone + right.gone,
+                key: join(nodes, key, parts, left.key, right.key, count),
+                gone,
             }
         }
     }
 }
 
-// Makes one tree of what is left of a fork's parts.
+// Makes one tree of what is left of a fork's parts, which have so many entries.
 fn join<V: Copy>(
     nodes: &mut Slab<Node<V>>,
     key: usize,
     parts: Parts,
     left: Option<usize>,
     right: Option<usize>,
+    count: u64,
 ) -> Option<usize>
     requires fork { node_at nodes.old.slots key ≡ Some (Node.Fork parts) }
     requires low { parts.block.first < parts.block.pivot }
     requires high { parts.block.pivot < parts.block.end }
     requires left { IsRest nodes.old.slots left parts.block.first parts.block.pivot }
     requires right { IsRest nodes.old.slots right parts.block.pivot parts.block.end }
+    requires count { count ≡ length (entries_of nodes.old.slots left ++ entries_of nodes.old.slots right) }
     ensures rest { HoldsRest nodes.new.slots result parts.block.first parts.block.end (entries_of nodes.old.slots left ++ entries_of nodes.old.slots right) }
     ensures keeps { Keeps nodes.old.slots nodes.new.slots parts.block.first parts.block.end }
     ensures nodes { slab_len nodes.new + (nodes_of (entries_of nodes.old.slots left) + nodes_of (entries_of nodes.old.slots right) + 1) ≡ slab_len nodes.old + nodes_of (entries_of nodes.old.slots left ++ entries_of nodes.old.slots right) }
@@ -202,7 +252,7 @@ fn join<V: Copy>(
 {
     match (left, right) {
         (Some(left), Some(right)) => {
-            link(nodes, key, parts, left, right);
+            link(nodes, key, parts, left, right, count);
             Some(key)
         }
         (Some(left), None) => {
@@ -216,24 +266,50 @@ fn join<V: Copy>(
     }
 }
 
-// Writes the keys of a fork's parts, where they change.
-fn link<V: Copy>(nodes: &mut Slab<Node<V>>, key: usize, parts: Parts, left: usize, right: usize)
+// Writes the keys of a fork's parts and how many entries they have, where these change.
+fn link<V: Copy>(
+    nodes: &mut Slab<Node<V>>,
+    key: usize,
+    parts: Parts,
+    left: usize,
+    right: usize,
+    count: u64,
+)
     requires { node_at nodes.old.slots key ≡ Some (Node.Fork parts) }
-    ensures updates { Updates nodes.old nodes.new key (Some (Node.Fork (record parts { left = left; right = right }))) }
+    ensures updates { Updates nodes.old nodes.new key (Some (Node.Fork (record parts { left = left; right = right; count = count }))) }
     ensures len { slab_len nodes.new ≡ slab_len nodes.old }
     ensures capacity { nodes.new.capacity ≡ nodes.old.capacity }
 {
-    if left != parts.left || right != parts.right {
+    if left != parts.left || right != parts.right || count != parts.count {
         set(
             nodes,
             key,
             Node::Fork(Parts {
                 left,
                 right,
+                count,
                 ..parts
             }),
         );
     }
+}
+
+// Counts so many more entries of a fork's parts.
+fn count_more<V: Copy>(nodes: &mut Slab<Node<V>>, key: usize, parts: Parts, added: u64)
+    requires fork { node_at nodes.old.slots key ≡ Some (Node.Fork parts) }
+    requires limit { parts.count + added ≤ PAGE_LIMIT }
+    ensures updates { Updates nodes.old nodes.new key (Some (Node.Fork (record parts { count = parts.count + added }))) }
+    ensures len { slab_len nodes.new ≡ slab_len nodes.old }
+    ensures capacity { nodes.new.capacity ≡ nodes.old.capacity }
+{
+    link(
+        nodes,
+        key,
+        parts,
+        parts.left,
+        parts.right,
+        parts.count + added,
+    );
 }
 
 // The block over a node's indexes and one beside them. They are all from `from` on and below `to`.
@@ -262,9 +338,17 @@ fn block_beside(first: u64, end: u64, index: u64, from: u64, to: u64) -> Block
     }
 }
 
-// Puts an entry beside a tree, in the other half of a block. The block stands under the tree's key.
-fn part<V: Copy>(nodes: &mut Slab<Node<V>>, key: usize, block: Block, index: u64, value: V)
+// Puts an entry beside a tree of so many, in the other half of a block. The block stands under the tree's key.
+fn part<V: Copy>(
+    nodes: &mut Slab<Node<V>>,
+    key: usize,
+    block: Block,
+    count: u64,
+    index: u64,
+    value: V,
+)
     requires beside { StandsBeside nodes.old.slots key block index }
+    requires count { count ≡ length (under nodes.old.slots key) }
     requires room { HasRoomFor nodes.old 2 }
     ensures entries { Holds nodes.new.slots key block.first block.end (put index value (under nodes.old.slots key)) }
     ensures keeps { Keeps nodes.old.slots nodes.new.slots block.first block.end }
@@ -279,7 +363,17 @@ fn part<V: Copy>(nodes: &mut Slab<Node<V>>, key: usize, block: Block, index: u64
     } else {
         (moved, leaf)
     };
-    set(nodes, key, Node::Fork(Parts { block, left, right }));
+    let count = count + 1;
+    set(
+        nodes,
+        key,
+        Node::Fork(Parts {
+            block,
+            left,
+            right,
+            count,
+        }),
+    );
 }
 
 // Writes a node over the one under a key.

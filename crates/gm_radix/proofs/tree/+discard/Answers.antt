@@ -1,4 +1,4 @@
-use Rattle.std.proofs.Common.{Some, inl, inr, arith, ap, ◌∙◌, length-append}
+use Rattle.std.proofs.Common.{Some, List, length, inl, inr, arith, ap, ◌∙◌, length-append}
 use Rattle.gm_radix.specs.declared.node.Node.TheVariants.{Leaf}
 use Rattle.gm_radix.specs.Nodes.{under}
 use Rattle.gm_radix.specs.Entries.{without}
@@ -72,8 +72,8 @@ join-requires-clause-right g t c =
     let b = at_both c.args.lo c.args.hi c.discard-left.result.key c.discard-right.result.key c.requires.limit f found c.discard-left.ensures.keeps c.discard-right.ensures.keeps c.discard-left.ensures.rest c.discard-right.ensures.rest in
     b.right_rest
 
-pub overflow_add-result : goal.overflow_add-result
-overflow_add-result g t c =
+pub overflow_add-gone : goal.overflow_add-gone
+overflow_add-gone g t c =
     let found = c.index.ensures ∙ ap (λ n. Some n) c.in-Fork.is in
     let f = at_fork c.in-Fork.parts c.requires.limit found c.requires.tree in
     let s = at_second c.requires.limit f c.discard-left.ensures.keeps in
@@ -81,6 +81,29 @@ overflow_add-result g t c =
     let left = under c.args.nodes.now.slots c.in-Fork.parts.left in
     let right = under c.args.nodes.now.slots c.in-Fork.parts.right in
     omega (arith, f.high, c.discard-left.ensures.gone, gone, length-Rises _ _ left f.left.rises, length-Rises _ _ right f.right.rises)
+
+pub overflow_sub-count : goal.overflow_sub-count
+overflow_sub-count g t c =
+    let found = c.index.ensures ∙ ap (λ n. Some n) c.in-Fork.is in
+    let f = at_fork c.in-Fork.parts c.requires.limit found c.requires.tree in
+    let s = at_second c.requires.limit f c.discard-left.ensures.keeps in
+    let gone = rw s.same at c.discard-right.ensures.gone in
+    let left = under c.args.nodes.now.slots c.in-Fork.parts.left in
+    let right = under c.args.nodes.now.slots c.in-Fork.parts.right in
+    omega (arith, f.count, ap (λ (es : List _). length es) f.is, c.discard-left.ensures.gone, gone, length-append left right)
+
+pub join-requires-clause-count : goal.join-requires-clause-count
+join-requires-clause-count g t c =
+    let found = c.index.ensures ∙ ap (λ n. Some n) c.in-Fork.is in
+    let f = at_fork c.in-Fork.parts c.requires.limit found c.requires.tree in
+    let s = at_second c.requires.limit f c.discard-left.ensures.keeps in
+    let b = at_both c.args.lo c.args.hi c.discard-left.result.key c.discard-right.result.key c.requires.limit f found c.discard-left.ensures.keeps c.discard-right.ensures.keeps c.discard-left.ensures.rest c.discard-right.ensures.rest in
+    let gone = rw s.same at c.discard-right.ensures.gone in
+    let left = under c.args.nodes.now.slots c.in-Fork.parts.left in
+    let right = under c.args.nodes.now.slots c.in-Fork.parts.right in
+    let lefts = without c.args.lo c.args.hi left in
+    let rights = without c.args.lo c.args.hi right in
+    rw (b.left_is, b.right_is) (omega (arith, f.count, ap (λ (es : List _). length es) f.is, c.discard-left.ensures.gone, gone, length-append left right, length-append lefts rights))
 
 pub returns-in-Fork-clause-rest : goal.returns-in-Fork-clause-rest
 returns-in-Fork-clause-rest g t c =

@@ -10,7 +10,7 @@ returns-in-Some-Some-clause-rest g c =
     let l = rw c.in-Some-Some.is-0 at c.requires.left in
     let r = rw c.in-Some-Some.is-1 at c.requires.right in
     let updates = c.link.ensures.updates in
-    rw (c.in-Some-Some.is-0, c.in-Some-Some.is-1) (fork_over updates.changed (Holds-updates (Fork c.args.parts) updates c.requires.fork (inr c.requires.high) l) (Holds-updates (Fork c.args.parts) updates c.requires.fork (inl c.requires.low) r))
+    rw (c.in-Some-Some.is-0, c.in-Some-Some.is-1) (fork_over updates.changed (Holds-updates (Fork c.args.parts) updates c.requires.fork (inr c.requires.high) l) (Holds-updates (Fork c.args.parts) updates c.requires.fork (inl c.requires.low) r) (rw (c.in-Some-Some.is-0, c.in-Some-Some.is-1) at c.requires.count))
 
 pub returns-in-Some-Some-clause-nodes : goal.returns-in-Some-Some-clause-nodes
 returns-in-Some-Some-clause-nodes g c =

@@ -2,7 +2,8 @@ use Rattle.std.proofs.Common.{Some, [], ◌∷◌, arith, ap}
 use Rattle.gm_radix.specs.Entries.{Indexed, put}
 use Rattle.gm_radix.specs.Nodes.{under, leaf}
 use Rattle.gm_radix.proofs.Frames.{entries_of-HoldsRest}
-use Rattle.gm_radix.proofs.Kept.{IsKept-HoldsRest, length-put}
+use Rattle.gm_radix.proofs.Kept.{IsKept-HoldsRest}
+use Rattle.gm_radix.proofs.Lists.{length-put}
 use Rattle.gm_radix.proofs.radix.Radix.insert.Goals as goal
 use Rattle.gm_radix.proofs.radix.Radix.insert.Goals.{in-Some, in-None}
 
