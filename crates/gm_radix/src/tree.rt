@@ -1,339 +1,387 @@
-//! The tree.
+//! The tree, by the keys of its nodes.
 
-ghost use Rattle.std.specs.Prelude.{◌≡◌, ◌+◌, ◌<◌, ◌≤◌, ◌↔◌, ◌++◌, [], ◌∷◌, length, IsTrue, ◌⊎◌, vec_len, vec_capacity};
+ghost use Rattle.std.specs.Prelude.{◌≡◌, ℕ, ◌+◌, ◌<◌, ◌≤◌, ◌⊎◌, ◌++◌, Some, length, vec_len, vec_capacity};
+ghost use Rattle.slab.specs.Slab.{slab_len, ContainsKey, HasRoomFor, Updates};
 ghost use Rattle.gm_base.specs.declared.numbers.TheConstants.{PAGE_LIMIT};
-ghost use Rattle.gm_radix.specs.Entries.{lookup, put, within, without, gap_from, Rises};
-ghost use Rattle.gm_radix.specs.Nodes.{entries, IsSound, IsLoose};
+ghost use Rattle.gm_radix.specs.Entries.{lookup, put, within, without, count_within, gap_from};
+ghost use Rattle.gm_radix.specs.Nodes.{node_at, under, nodes_of, entries_of, Holds, HoldsRest, IsPart, IsRest, IsTree, Keeps, StandsBeside};
 
-use crate::block::block_over;
-use gm_base::NoMemory;
-use std::alloc::Global;
-use std::marker::Model;
-use std::mem;
+use crate::block::{Block, block_over};
+use crate::node::{Node, Parts};
+use slab::Slab;
 
-/// The entries of a part of the indexes.
-#[cycle(tree)]
-#[derive(Drop)]
-pub(crate) struct Tree<V> {
-    node: Node<V>,
-}
-
-// No entry, one, or two parts: the indexes from `lo` on and below the pivot, and those from the pivot on and below `hi`.
-#[cycle(tree)]
-#[derive(Drop)]
-enum Node<V> {
-    Empty,
-    One(u64, V),
-    Two(u64, u64, u64, Box<Tree<V>>, Box<Tree<V>>),
-}
-
-impl<V> Model for Tree<V> {
-    ghost use Rattle.std.specs.Prelude.{ℕ, List, length};
-    ghost use Rattle.std.specs.Coded.{coded×, coded_ℕ, coded_list};
-
-    ghost Value = { List (ℕ × V) };
-
-    ghost coded = { coded_list (coded× coded_ℕ V.code) };
-
-    ghost use Rattle.gm_radix.specs.Nodes.{entries, IsSound};
-
-    ghost view = { λ t. entries t.node };
-
-    ghost invariant = { λ t. IsSound t.node };
-
-    ghost size = { length };
-
-    ghost use Rattle.gm_radix.specs.Falls.{depth_le-length-entries};
-
-    ghost size_decreases = { λ t h. depth_le-length-entries t.node h };
-}
-
-/// Two trees' worth of memory, as an insert takes.
-#[derive(Drop)]
-pub(crate) struct Spare<V> {
-    left: Box<Tree<V>>,
-    right: Box<Tree<V>>,
-}
-
-impl<V: Drop> Spare<V> {
-    /// Takes the memory.
-    pub(crate) fn new(alloc: Global) -> Result<Spare<V>, NoMemory> {
-        let left = Box::new(alloc, Tree::new())?;
-        let right = Box::new(alloc, Tree::new())?;
-        Ok(Spare { left, right })
-    }
-}
-
-impl<V> Tree<V> {
-    /// No entry.
-    pub(crate) fn new() -> Tree<V>
-        ensures { result ≡ [] }
-    {
-        Tree { node: Node::Empty }
-    }
-
-    // Whether there is no entry.
-    fn is_empty(&self) -> bool
-        ensures { IsTrue result ↔ (self.now ≡ []) }
-    {
-        matches!(self.node, Node::Empty)
-    }
-}
-
-impl<V: Copy> Tree<V> {
-    /// The value at the index.
-    pub(crate) fn get(&self, index: u64) -> Option<V>
-        ensures { result ≡ lookup index self.now }
-    {
-        match &self.node {
-            Node::Empty => None,
-            Node::One(key, value) => { if *key == index { Some(*value) } else { None } }
-            Node::Two(_, pivot, _, left, right) => {
-                if index < *pivot {
-                    left.get(index)
-                } else {
-                    right.get(index)
-                }
-            }
-        }
-    }
-
-    /// Puts the value at the index, in the place of the one that was there.
-    pub(crate) fn insert(&mut self, index: u64, value: V, spares: &mut Vec<Spare<V>>)
-        requires limit { index < PAGE_LIMIT }
-        requires room { 0 < vec_len spares.old }
-        ensures entries { self.new ≡ put index value self.old }
-        ensures spares { vec_len spares.old ≤ vec_len spares.new + 1 }
-    {
-        match &mut self.node {
-            Node::Empty => self.node = Node::One(index, value),
-            Node::One(key, _) => {
-                let key = *key;
-                if key == index {
-                    self.node = Node::One(index, value);
-                } else {
-                    part(&mut self.node, key, key + 1, index, value, spares);
-                }
-            }
-            Node::Two(lo, pivot, hi, left, right) => {
-                let (lo, hi) = (*lo, *hi);
-                if is_apart(index, lo, hi) {
-                    part(&mut self.node, lo, hi, index, value, spares);
-                } else if index < *pivot {
-                    left.insert(index, value, spares);
-                } else {
-                    right.insert(index, value, spares);
-                }
-            }
-        }
-    }
-
-    /// Takes the entries away whose index is at least `lo` and below `hi`, and answers how many they were.
-    pub(crate) fn discard(&mut self, lo: u64, hi: u64) -> u64
-        ensures rest { self.new ≡ without lo hi self.old }
-        ensures count { result + length self.new ≡ length self.old }
-    {
-        match &mut self.node {
-            Node::Empty => 0,
-            Node::One(key, _) => {
-                if lo <= *key && *key < hi {
-                    self.node = Node::Empty;
-                    1
-                } else {
-                    0
-                }
-            }
-            Node::Two(first, _, end, left, right) => {
-                if *end <= lo {
-                    return 0;
-                }
-                if hi <= *first {
-                    return 0;
-                }
-                let count = left.discard(lo, hi) + right.discard(lo, hi);
-                drop_empty(&mut self.node);
-                count
-            }
-        }
-    }
-
-    /// Moves the entries whose index is at least `lo` and below `hi` to the end of a list that has room for them.
-    pub(crate) fn drain(&mut self, lo: u64, hi: u64, out: &mut Vec<(u64, V)>)
-        requires { vec_len out.old + length (within lo hi self.old) ≤ vec_capacity out.old }
-        ensures rest { self.new ≡ without lo hi self.old }
-        ensures taken { out.new.items ≡ out.old.items ++ within lo hi self.old }
-        ensures len { vec_len out.new ≡ vec_len out.old + length (within lo hi self.old) }
-        ensures capacity { vec_capacity out.old ≤ vec_capacity out.new }
-    {
-        match &mut self.node {
-            Node::Empty => {}
-            Node::One(key, value) => {
-                if lo <= *key && *key < hi {
-                    append(out, (*key, *value));
-                    self.node = Node::Empty;
-                }
-            }
-            Node::Two(first, _, end, left, right) => {
-                if *end <= lo {
-                    return;
-                }
-                if hi <= *first {
-                    return;
-                }
-                left.drain(lo, hi, out);
-                right.drain(lo, hi, out);
-                drop_empty(&mut self.node);
-            }
-        }
-    }
-
-    /// Past the indexes from this one on that have values, one after another.
-    pub(crate) fn first_gap(&self, index: u64) -> u64
-        requires { index ≤ PAGE_LIMIT }
-        ensures gap { result ≡ gap_from index self.now }
-        ensures limit { result ≤ PAGE_LIMIT }
-    {
-        match &self.node {
-            Node::Empty => index,
-            Node::One(key, _) => { if *key == index { index + 1 } else { index } }
-            Node::Two(_, pivot, _, left, right) => {
-                let pivot = *pivot;
-                if pivot <= index {
-                    return right.first_gap(index);
-                }
-                let gap = left.first_gap(index);
-                if gap < pivot {
-                    return gap;
-                }
-                right.first_gap(gap)
-            }
-        }
-    }
-}
-
-// The node, which is left empty.
-fn take_node<V>(tree: &mut Tree<V>) -> Node<V>
-    ensures sound { IsSound result }
-    ensures entries { entries result ≡ tree.old }
-    ensures left_empty { tree.new ≡ [] }
+/// The value at the index.
+pub(crate) fn get<V: Copy>(nodes: &Slab<Node<V>>, key: usize, index: u64) -> Option<V>
+    requires { IsTree nodes.now.slots key }
+    ensures { result ≡ lookup index (under nodes.now.slots key) }
 {
-    mem::replace(&mut tree.node, Node::Empty)
-}
-
-// A node of two with an empty part becomes its other part.
-fn drop_empty<V: Drop>(node: &mut Node<V>)
-    requires { IsLoose node.old }
-    ensures sound { IsSound node.new }
-    ensures entries { entries node.new ≡ entries node.old }
-{
-    let Node::Two(_, _, _, left, right) = node else {
-        return;
-    };
-    let (is_left_empty, is_right_empty) = (left.is_empty(), right.is_empty());
-    if is_left_empty {
-        *node = take_node(right);
-    } else if is_right_empty {
-        *node = take_node(left);
+    match nodes[key] {
+        Node::Leaf(at, value) => if at == index { Some(value) } else { None },
+        Node::Fork(parts) => {
+            if index < parts.block.pivot {
+                get(nodes, parts.left, index)
+            } else {
+                get(nodes, parts.right, index)
+            }
+        }
     }
 }
 
-// Appends an entry to a list that has room.
-fn append<V: Drop>(out: &mut Vec<(u64, V)>, entry: (u64, V))
-    requires { vec_len out.old < vec_capacity out.old }
-    ensures items { out.new.items ≡ out.old.items ++ entry ∷ [] }
-    ensures len { vec_len out.new ≡ vec_len out.old + 1 }
-    ensures capacity { vec_capacity out.old ≤ vec_capacity out.new }
+/// Past the indexes from this one on that have values, one after another. A block that is full has no gap, and past the
+/// first half of one the index is that of the second half's beginning, so at most two parts are visited at each depth.
+pub(crate) fn first_gap<V: Copy>(nodes: &Slab<Node<V>>, key: usize, index: u64) -> u64
+    requires tree { IsTree nodes.now.slots key }
+    requires limit { index ≤ PAGE_LIMIT }
+    ensures gap { result ≡ gap_from index (under nodes.now.slots key) }
+    ensures limit { result ≤ PAGE_LIMIT }
 {
-    match out.push(entry) {
-        Ok(()) => {}
-        Err(_) => unreachable!(),
+    match nodes[key] {
+        Node::Leaf(at, _) => if at == index { index + 1 } else { index },
+        Node::Fork(parts) => {
+            let block = parts.block;
+            if index < block.first || block.end <= index {
+                return index;
+            }
+            if parts.count == block.end - block.first {
+                return block.end;
+            }
+            if block.pivot <= index {
+                return first_gap(nodes, parts.right, index);
+            }
+            let gap = first_gap(nodes, parts.left, index);
+            if gap < block.pivot {
+                return gap;
+            }
+            first_gap(nodes, parts.right, gap)
+        }
     }
 }
 
-// Whether the index isn't one of those from `lo` on and below `hi`.
-fn is_apart(index: u64, lo: u64, hi: u64) -> bool
-    ensures { IsTrue result ↔ ((index < lo) ⊎ (hi ≤ index)) }
-{
-    index < lo || hi <= index
-}
-
-// Puts an entry beside a node whose indexes are at least `lo` and below `hi`.
-fn part<V: Drop>(
-    node: &mut Node<V>,
+/// How many entries have an index from `lo` on and below `hi`. The tree has its indexes from `from` on and below `to`.
+pub(crate) fn count_in<V: Copy>(
+    nodes: &Slab<Node<V>>,
+    key: usize,
+    from: u64,
+    to: u64,
     lo: u64,
     hi: u64,
-    index: u64,
-    value: V,
-    spares: &mut Vec<Spare<V>>,
-)
-    requires sound { IsSound node.old }
-    requires some { 0 < length (entries node.old) }
-    requires rises { Rises lo hi (entries node.old) }
-    requires order { lo < hi }
-    requires limit { hi ≤ PAGE_LIMIT }
-    requires index_limit { index < PAGE_LIMIT }
-    requires apart { (index < lo) ⊎ (hi ≤ index) }
-    requires room { 0 < vec_len spares.old }
-    ensures sound { IsSound node.new }
-    ensures entries { entries node.new ≡ put index value (entries node.old) }
-    ensures spares { vec_len spares.new + 1 ≡ vec_len spares.old }
+) -> u64
+    requires tree { IsPart nodes.now.slots key from to }
+    requires limit { to ≤ PAGE_LIMIT }
+    ensures { result ≡ count_within lo hi (under nodes.now.slots key) }
 {
-    let Some(spare) = spares.pop() else {
-        unreachable!()
-    };
-    if index < lo {
-        part_below(node, lo, hi, index, value, spare);
-    } else {
-        part_above(node, lo, hi, index, value, spare);
+    if to <= lo || hi <= from {
+        return 0;
+    }
+    match nodes[key] {
+        Node::Leaf(at, _) => if lo <= at && at < hi { 1 } else { 0 },
+        Node::Fork(parts) => {
+            let block = parts.block;
+            if lo <= block.first && block.end <= hi {
+                return parts.count;
+            }
+            let left = count_in(nodes, parts.left, block.first, block.pivot, lo, hi);
+            let right = count_in(nodes, parts.right, block.pivot, block.end, lo, hi);
+            left + right
+        }
     }
 }
 
-// Puts an entry before a node.
-fn part_below<V: Drop>(node: &mut Node<V>, lo: u64, hi: u64, index: u64, value: V, spare: Spare<V>)
-    requires sound { IsSound node.old }
-    requires some { 0 < length (entries node.old) }
-    requires rises { Rises lo hi (entries node.old) }
-    requires order { lo < hi }
-    requires limit { hi ≤ PAGE_LIMIT }
-    requires below { index < lo }
-    ensures sound { IsSound node.new }
-    ensures entries { entries node.new ≡ put index value (entries node.old) }
+/// Copies the entries whose index is at least `lo` and below `hi` to the end of a list that has room for them. The tree
+/// has its indexes from `from` on and below `to`.
+pub(crate) fn collect<V: Copy>(
+    nodes: &Slab<Node<V>>,
+    key: usize,
+    from: u64,
+    to: u64,
+    lo: u64,
+    hi: u64,
+    out: &mut Vec<(u64, V)>,
+)
+    requires tree { IsPart nodes.now.slots key from to }
+    requires limit { to ≤ PAGE_LIMIT }
+    requires room { vec_len out.old + length (within lo hi (under nodes.now.slots key)) ≤ vec_capacity out.old }
+    ensures taken { out.new.items ≡ out.old.items ++ within lo hi (under nodes.now.slots key) }
+    ensures len { vec_len out.new ≡ vec_len out.old + length (within lo hi (under nodes.now.slots key)) }
+    ensures capacity { vec_capacity out.old ≤ vec_capacity out.new }
 {
-    let block = block_over(index, lo);
-    let Spare {
-        mut left,
-        mut right,
-    } = spare;
-    *left = Tree {
-        node: Node::One(index, value),
-    };
-    *right = Tree {
-        node: mem::replace(node, Node::Empty),
-    };
-    *node = Node::Two(block.first, block.pivot, block.end.max(hi), left, right);
+    if to <= lo || hi <= from {
+        return;
+    }
+    match nodes[key] {
+        Node::Leaf(at, value) => {
+            if lo <= at && at < hi {
+                out.push_reserved((at, value));
+            }
+        }
+        Node::Fork(parts) => {
+            let block = parts.block;
+            collect(nodes, parts.left, block.first, block.pivot, lo, hi, out);
+            collect(nodes, parts.right, block.pivot, block.end, lo, hi, out);
+        }
+    }
 }
 
-// Puts an entry after a node.
-fn part_above<V: Drop>(node: &mut Node<V>, lo: u64, hi: u64, index: u64, value: V, spare: Spare<V>)
-    requires sound { IsSound node.old }
-    requires some { 0 < length (entries node.old) }
-    requires rises { Rises lo hi (entries node.old) }
-    requires order { lo < hi }
-    requires limit { index < PAGE_LIMIT }
-    requires above { hi ≤ index }
-    ensures sound { IsSound node.new }
-    ensures entries { entries node.new ≡ put index value (entries node.old) }
+/// Puts the value at the index, in the place of the one that was there, and answers how many entries that adds. The tree
+/// has its indexes from `from` on and below `to`.
+pub(crate) fn insert<V: Copy>(
+    nodes: &mut Slab<Node<V>>,
+    key: usize,
+    from: u64,
+    to: u64,
+    index: u64,
+    value: V,
+) -> u64
+    requires tree { IsPart nodes.old.slots key from to }
+    requires limit { to ≤ PAGE_LIMIT }
+    requires low { from ≤ index }
+    requires high { index < to }
+    requires room { HasRoomFor nodes.old 2 }
+    ensures entries { Holds nodes.new.slots key from to (put index value (under nodes.old.slots key)) }
+    ensures keeps { Keeps nodes.old.slots nodes.new.slots from to }
+    ensures added { result + length (under nodes.old.slots key) ≡ length (put index value (under nodes.old.slots key)) }
+    ensures nodes { slab_len nodes.new + nodes_of (under nodes.old.slots key) ≡ slab_len nodes.old + nodes_of (put index value (under nodes.old.slots key)) }
+    ensures capacity { nodes.new.capacity ≡ nodes.old.capacity }
 {
-    let block = block_over(hi - 1, index);
-    let Spare {
-        mut left,
-        mut right,
-    } = spare;
-    *left = Tree {
-        node: mem::replace(node, Node::Empty),
+    match nodes[key] {
+        Node::Leaf(at, _) => {
+            if at == index {
+                set(nodes, key, Node::Leaf(index, value));
+                0
+            } else {
+                let block = block_beside(at, at + 1, index, from, to);
+                part(nodes, key, block, 1, index, value);
+                1
+            }
+        }
+        Node::Fork(parts) => {
+            let block = parts.block;
+            if index < block.first || block.end <= index {
+                let wider = block_beside(block.first, block.end, index, from, to);
+                part(nodes, key, wider, parts.count, index, value);
+                1
+            } else if index < block.pivot {
+                let added = insert(nodes, parts.left, block.first, block.pivot, index, value);
+                count_more(nodes, key, parts, added);
+                added
+            } else {
+                let added = insert(nodes, parts.right, block.pivot, block.end, index, value);
+                count_more(nodes, key, parts, added);
+                added
+            }
+        }
+    }
+}
+
+/// What is left of a tree: the key where it stands, unless it is empty, and how many entries are gone.
+#[derive(Clone, Copy)]
+pub(crate) struct Rest {
+    pub key: Option<usize>,
+    pub gone: u64,
+}
+
+/// Takes the entries away whose index is at least `lo` and below `hi`. The tree has its indexes from `from` on and below
+/// `to`.
+pub(crate) fn discard<V: Copy>(
+    nodes: &mut Slab<Node<V>>,
+    key: usize,
+    from: u64,
+    to: u64,
+    lo: u64,
+    hi: u64,
+) -> Rest
+    requires tree { IsPart nodes.old.slots key from to }
+    requires limit { to ≤ PAGE_LIMIT }
+    ensures rest { HoldsRest nodes.new.slots result.key from to (without lo hi (under nodes.old.slots key)) }
+    ensures keeps { Keeps nodes.old.slots nodes.new.slots from to }
+    ensures gone { result.gone + length (without lo hi (under nodes.old.slots key)) ≡ length (under nodes.old.slots key) }
+    ensures nodes { slab_len nodes.new + nodes_of (under nodes.old.slots key) ≡ slab_len nodes.old + nodes_of (without lo hi (under nodes.old.slots key)) }
+    ensures capacity { nodes.new.capacity ≡ nodes.old.capacity }
+{
+    if to <= lo || hi <= from {
+        return Rest {
+            key: Some(key),
+            gone: 0,
+        };
+    }
+    match nodes[key] {
+        Node::Leaf(at, _) => {
+            if lo <= at && at < hi {
+                nodes.remove(key);
+                Rest { key: None, gone: 1 }
+            } else {
+                Rest {
+                    key: Some(key),
+                    gone: 0,
+                }
+            }
+        }
+        Node::Fork(parts) => {
+            let block = parts.block;
+            let left = discard(nodes, parts.left, block.first, block.pivot, lo, hi);
+            let right = discard(nodes, parts.right, block.pivot, block.end, lo, hi);
+            let gone = left.gone + right.gone;
+            let count = parts.count - gone;
+            Rest {
+                key: join(nodes, key, parts, left.key, right.key, count),
+                gone,
+            }
+        }
+    }
+}
+
+// Makes one tree of what is left of a fork's parts, which have so many entries.
+fn join<V: Copy>(
+    nodes: &mut Slab<Node<V>>,
+    key: usize,
+    parts: Parts,
+    left: Option<usize>,
+    right: Option<usize>,
+    count: u64,
+) -> Option<usize>
+    requires fork { node_at nodes.old.slots key ≡ Some (Node.Fork parts) }
+    requires low { parts.block.first < parts.block.pivot }
+    requires high { parts.block.pivot < parts.block.end }
+    requires left { IsRest nodes.old.slots left parts.block.first parts.block.pivot }
+    requires right { IsRest nodes.old.slots right parts.block.pivot parts.block.end }
+    requires count { count ≡ length (entries_of nodes.old.slots left ++ entries_of nodes.old.slots right) }
+    ensures rest { HoldsRest nodes.new.slots result parts.block.first parts.block.end (entries_of nodes.old.slots left ++ entries_of nodes.old.slots right) }
+    ensures keeps { Keeps nodes.old.slots nodes.new.slots parts.block.first parts.block.end }
+    ensures nodes { slab_len nodes.new + (nodes_of (entries_of nodes.old.slots left) + nodes_of (entries_of nodes.old.slots right) + 1) ≡ slab_len nodes.old + nodes_of (entries_of nodes.old.slots left ++ entries_of nodes.old.slots right) }
+    ensures capacity { nodes.new.capacity ≡ nodes.old.capacity }
+{
+    match (left, right) {
+        (Some(left), Some(right)) => {
+            link(nodes, key, parts, left, right, count);
+            Some(key)
+        }
+        (Some(left), None) => {
+            nodes.remove(key);
+            Some(left)
+        }
+        (None, right) => {
+            nodes.remove(key);
+            right
+        }
+    }
+}
+
+// Writes the keys of a fork's parts and how many entries they have, where these change.
+fn link<V: Copy>(
+    nodes: &mut Slab<Node<V>>,
+    key: usize,
+    parts: Parts,
+    left: usize,
+    right: usize,
+    count: u64,
+)
+    requires { node_at nodes.old.slots key ≡ Some (Node.Fork parts) }
+    ensures updates { Updates nodes.old nodes.new key (Some (Node.Fork (record parts { left = left; right = right; count = count }))) }
+    ensures len { slab_len nodes.new ≡ slab_len nodes.old }
+    ensures capacity { nodes.new.capacity ≡ nodes.old.capacity }
+{
+    if left != parts.left || right != parts.right || count != parts.count {
+        set(
+            nodes,
+            key,
+            Node::Fork(Parts {
+                left,
+                right,
+                count,
+                ..parts
+            }),
+        );
+    }
+}
+
+// Counts so many more entries of a fork's parts.
+fn count_more<V: Copy>(nodes: &mut Slab<Node<V>>, key: usize, parts: Parts, added: u64)
+    requires fork { node_at nodes.old.slots key ≡ Some (Node.Fork parts) }
+    requires limit { parts.count + added ≤ PAGE_LIMIT }
+    ensures updates { Updates nodes.old nodes.new key (Some (Node.Fork (record parts { count = parts.count + added }))) }
+    ensures len { slab_len nodes.new ≡ slab_len nodes.old }
+    ensures capacity { nodes.new.capacity ≡ nodes.old.capacity }
+{
+    link(
+        nodes,
+        key,
+        parts,
+        parts.left,
+        parts.right,
+        parts.count + added,
+    );
+}
+
+// The block over a node's indexes and one beside them. They are all from `from` on and below `to`.
+fn block_beside(first: u64, end: u64, index: u64, from: u64, to: u64) -> Block
+    requires order { first < end }
+    requires apart { (index < first) ⊎ (end ≤ index) }
+    requires low { from ≤ first }
+    requires high { end ≤ to }
+    requires index_low { from ≤ index }
+    requires index_high { index < to }
+    requires limit { to ≤ PAGE_LIMIT }
+    ensures low { from ≤ result.first }
+    ensures high { result.end ≤ to }
+    ensures beside { ((result.first ≤ index) × (index < result.pivot) × (result.pivot ≤ first) × (end ≤ result.end)) ⊎ ((result.first ≤ first) × (end ≤ result.pivot) × (result.pivot ≤ index) × (index < result.end)) }
+{
+    let block = if index < first {
+        block_over(index, first)
+    } else {
+        block_over(end - 1, index)
     };
-    *right = Tree {
-        node: Node::One(index, value),
+    // The minima and maxima change no number. They keep the order plain, whatever the bits are.
+    Block {
+        first: block.first.min(first).max(from),
+        pivot: block.pivot,
+        end: block.end.max(end).min(to),
+    }
+}
+
+// Puts an entry beside a tree of so many, in the other half of a block. The block stands under the tree's key.
+fn part<V: Copy>(
+    nodes: &mut Slab<Node<V>>,
+    key: usize,
+    block: Block,
+    count: u64,
+    index: u64,
+    value: V,
+)
+    requires beside { StandsBeside nodes.old.slots key block index }
+    requires count { count ≡ length (under nodes.old.slots key) }
+    requires room { HasRoomFor nodes.old 2 }
+    ensures entries { Holds nodes.new.slots key block.first block.end (put index value (under nodes.old.slots key)) }
+    ensures keeps { Keeps nodes.old.slots nodes.new.slots block.first block.end }
+    ensures nodes { slab_len nodes.new + nodes_of (under nodes.old.slots key) ≡ slab_len nodes.old + nodes_of (put index value (under nodes.old.slots key)) }
+    ensures capacity { nodes.new.capacity ≡ nodes.old.capacity }
+{
+    let node = nodes[key];
+    let moved = nodes.insert_reserved(node);
+    let leaf = nodes.insert_reserved(Node::Leaf(index, value));
+    let (left, right) = if index < block.pivot {
+        (leaf, moved)
+    } else {
+        (moved, leaf)
     };
-    *node = Node::Two(block.first.min(lo), block.pivot, block.end, left, right);
+    let count = count + 1;
+    set(
+        nodes,
+        key,
+        Node::Fork(Parts {
+            block,
+            left,
+            right,
+            count,
+        }),
+    );
+}
+
+// Writes a node over the one under a key.
+fn set<V: Drop>(nodes: &mut Slab<Node<V>>, key: usize, node: Node<V>)
+    requires { ContainsKey nodes.old key }
+    ensures updates { Updates nodes.old nodes.new key (Some node) }
+    ensures len { slab_len nodes.new ≡ slab_len nodes.old }
+    ensures capacity { nodes.new.capacity ≡ nodes.old.capacity }
+{
+    nodes[key] = node;
 }

@@ -1,0 +1,84 @@
+-- How many entries of a list have their indexes in a range.
+use Rattle.std.proofs.Common.{◌≡◌, ℕ, ◌+◌, ◌-◌, ◌<◌, ◌≤◌, ◌⊎◌, inl, inr, List, [], ◌∷◌, ◌++◌, length, refl, ap, ◌∙◌, arith, Bool, true, false, length-append}
+use Rattle.std.specs.Prelude.{Some, IsSome, nat_eq, nat_lt, nat_le, if◌then◌else◌, ◌&&◌}
+use Rattle.std.proofs.lemmas.Bool.Decides.{nat_tests}
+use Rattle.std.proofs.lemmas.Bool.{ne_eqb, eq-eqb}
+use Rattle.gm_radix.specs.Entries.{lookup, is_within, count_within, gap_from, Rises}
+use Rattle.gm_radix.proofs.Lists.{not_within, length-Rises}
+
+module _ {V : Type 0} where
+  pub count_within-append : (lo hi : ℕ) (l r : List (ℕ × V)) → count_within lo hi (l ++ r) ≡ count_within lo hi l + count_within lo hi r
+  count_within-append lo hi [] r = omega arith
+  count_within-append lo hi (e ∷ es) r = cases (is_within lo hi e) (count_within-append lo hi es r)
+    where
+      cases : (b : Bool) {u : ℕ} → u ≡ count_within lo hi es + count_within lo hi r → (if b then u + 1 else u) ≡ (if b then count_within lo hi es + 1 else count_within lo hi es) + count_within lo hi r
+      cases true q = omega arith
+      cases false q = q
+
+  pub count_within-length : (lo hi : ℕ) (es : List (ℕ × V)) → count_within lo hi es ≤ length es
+  count_within-length lo hi [] = omega arith
+  count_within-length lo hi (e ∷ es) = cases (is_within lo hi e) (count_within-length lo hi es)
+    where
+      cases : (b : Bool) → count_within lo hi es ≤ length es → (if b then count_within lo hi es + 1 else count_within lo hi es) ≤ length (e ∷ es)
+      cases true q = omega arith
+      cases false q = omega arith
+
+  -- none where the bounds are apart
+  pub count_within-apart : (lo hi a b : ℕ) (es : List (ℕ × V)) → Rises a b es → (b ≤ lo) ⊎ (hi ≤ a) → count_within lo hi es ≡ 0
+  count_within-apart lo hi a b [] h o = refl
+  count_within-apart lo hi a b (e ∷ es) h o =
+      rw (not_within lo hi a b e h.0 o) (count_within-apart lo hi (e.0 + 1) b es h.1 (elim o [ inl p ↦ inl p | inr q ↦ inr (omega arith) ]))
+
+  inside : (lo hi : ℕ) (e : ℕ × V) → lo ≤ e.0 → e.0 < hi → is_within lo hi e ≡ true
+  inside lo hi e p q = grind (arith, nat_tests)
+
+  -- all where they are inside
+  pub count_within-inside : (lo hi a b : ℕ) (es : List (ℕ × V)) → Rises a b es → lo ≤ a → b ≤ hi → count_within lo hi es ≡ length es
+  count_within-inside lo hi a b [] h p q = refl
+  count_within-inside lo hi a b (e ∷ es) h p q =
+      let rest = count_within-inside lo hi (e.0 + 1) b es h.1 (omega arith) q in
+      rw (inside lo hi e (omega arith) (omega arith)) (omega (arith, rest))
+
+  -- as many entries as indexes leave no gap
+  pub gap_from-full : (index lo hi : ℕ) (es : List (ℕ × V)) → Rises lo hi es → length es ≡ hi - lo → lo ≤ index → index ≤ hi → gap_from index es ≡ hi
+  gap_from-full index lo hi [] h n p q = omega arith
+  gap_from-full index lo hi (e ∷ es) h n p q =
+      cases (nat_eq e.0 index) refl (λ k a. gap_from-full k (e.0 + 1) hi es h.1 (omega (arith, length-Rises (e.0 + 1) hi es h.1)) a)
+    where
+      cases : (b : Bool) → nat_eq e.0 index ≡ b → ((k : ℕ) → e.0 + 1 ≤ k → k ≤ hi → gap_from k es ≡ hi) → gap_from (if b then index + 1 else index) es ≡ hi
+      cases true t r =
+          let s : e.0 ≡ index = grind (arith, nat_tests) in
+          r (index + 1) (omega arith) (omega arith)
+      cases false t r =
+          let d : e.0 ≡ index → ⊥ = λ p. grind (arith, nat_tests, eq-eqb e.0 index p) in
+          let first : e.0 ≡ lo = omega (arith, length-Rises (e.0 + 1) hi es h.1) in
+          r index (omega (arith, d)) q
+
+  later : (k : ℕ) (e : ℕ × V) (es : List (ℕ × V)) → IsSome (lookup k es) → IsSome (lookup k (e ∷ es))
+  later k e es s = elim (nat_eq e.0 k) as (λ b. IsSome (if b then Some e.1 else lookup k es)) [ true ↦ refl | false ↦ s ]
+
+  -- where the count isn't 0, an index has a value
+  pub count_within-some : (lo hi : ℕ) (es : List (ℕ × V)) → 0 < count_within lo hi es → (k : ℕ) × (lo ≤ k) × (k < hi) × IsSome (lookup k es)
+  count_within-some lo hi [] h = absurd (omega arith)
+  count_within-some lo hi (e ∷ es) h = cases (is_within lo hi e) refl (count_within-some lo hi es) h
+    where
+      cases : (b : Bool) → is_within lo hi e ≡ b → (0 < count_within lo hi es → (k : ℕ) × (lo ≤ k) × (k < hi) × IsSome (lookup k es)) → 0 < (if b then count_within lo hi es + 1 else count_within lo hi es) → (k : ℕ) × (lo ≤ k) × (k < hi) × IsSome (lookup k (e ∷ es))
+      cases true t r h = (e.0, grind (arith, nat_tests), grind (arith, nat_tests), rw (eq-eqb e.0 e.0 refl) refl)
+      cases false t r h =
+          let f = r h in
+          (f.0, f.1, f.2, later f.0 e es f.3)
+
+  -- where an index has a value, the count isn't 0
+  pub count_within-there : (lo hi k : ℕ) (es : List (ℕ × V)) → lo ≤ k → k < hi → IsSome (lookup k es) → 0 < count_within lo hi es
+  count_within-there lo hi k [] p q s = absurd cc
+  count_within-there lo hi k (e ∷ es) p q s = cases (nat_eq e.0 k) refl (count_within-there lo hi k es p q) s
+    where
+      more : (b : Bool) → 0 < count_within lo hi es → 0 < (if b then count_within lo hi es + 1 else count_within lo hi es)
+      more true h = omega arith
+      more false h = h
+
+      cases : (b : Bool) → nat_eq e.0 k ≡ b → (IsSome (lookup k es) → 0 < count_within lo hi es) → IsSome (if b then Some e.1 else lookup k es) → 0 < (if is_within lo hi e then count_within lo hi es + 1 else count_within lo hi es)
+      cases true t r s =
+          let same : e.0 ≡ k = grind (arith, nat_tests) in
+          rw (inside lo hi e (omega arith) (omega arith)) (omega arith)
+      cases false t r s = more (is_within lo hi e) (r s)

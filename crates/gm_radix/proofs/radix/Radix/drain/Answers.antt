@@ -1,0 +1,18 @@
+use Rattle.std.proofs.Common.{arith}
+use Rattle.gm_radix.specs.Nodes.{under}
+use Rattle.gm_radix.specs.Entries.{without}
+use Rattle.gm_radix.proofs.Frames.{entries_of-HoldsRest}
+use Rattle.gm_radix.proofs.Kept.{IsKept-HoldsRest}
+use Rattle.gm_radix.proofs.radix.Radix.drain.Goals as goal
+
+pub invariant_of-self : goal.invariant_of-self
+invariant_of-self g c =
+    let kept = rw c.in-Some.is at c.self.invariant in
+    let nodes = kept.nodes in
+    let rest = c.discard.ensures in
+    IsKept-HoldsRest _ c.discard.result.key (without c.args.lo c.args.hi (under c.self.inside.nodes.slots c.in-Some.key)) _ _ _ rest.rest (omega (arith, nodes, rest.nodes, rest.gone)) (omega (arith, nodes, kept.room, rest.nodes, rest.gone, rest.capacity))
+
+pub returns-in-Some-clause-entries : goal.returns-in-Some-clause-entries
+returns-in-Some-clause-entries g c =
+    let kept = rw c.in-Some.is at c.self.invariant in
+    rw (← c.self.view_is, c.in-Some.is) (entries_of-HoldsRest _ _ _ _ c.discard.result.key (omega arith) c.discard.ensures.rest)

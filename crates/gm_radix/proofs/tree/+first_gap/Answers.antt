@@ -1,0 +1,48 @@
+use Rattle.std.proofs.Common.{Some, inl, inr, arith, ap, sym, ◌∙◌}
+use Rattle.gm_radix.proofs.Counts.{gap_from-full}
+use Rattle.gm_radix.proofs.Held.{at_fork}
+use Rattle.gm_radix.proofs.Lists.{gap_from-append, gap_from-outside}
+use Rattle.gm_radix.specs.Nodes.{under}
+use Rattle.gm_radix.proofs.tree.+first_gap.Goals as goal
+
+pub first_gap-requires : goal.first_gap-requires
+first_gap-requires g t c κs within =
+    let f = at_fork c.in-Fork.parts (omega arith) (c.index.ensures ∙ ap (λ n. Some n) c.in-Fork.is) c.requires.tree in
+    (omega (arith, f.right.less, c.decreases), (within, (f.right.tree, c.requires.limit)))
+
+pub first_gap-gap-requires : goal.first_gap-gap-requires
+first_gap-gap-requires g t c κs within =
+    let f = at_fork c.in-Fork.parts (omega arith) (c.index.ensures ∙ ap (λ n. Some n) c.in-Fork.is) c.requires.tree in
+    (omega (arith, f.left.less, c.decreases), (within, (f.left.tree, c.requires.limit)))
+
+pub first_gap-requires-in-Fork : goal.first_gap-requires-in-Fork
+first_gap-requires-in-Fork g t c κs within =
+    let f = at_fork c.in-Fork.parts (omega arith) (c.index.ensures ∙ ap (λ n. Some n) c.in-Fork.is) c.requires.tree in
+    (omega (arith, f.right.less, c.decreases), (within, (f.right.tree, c.first_gap-gap.ensures.limit)))
+
+pub returns-then-block-index-2-clause-gap : goal.returns-then-block-index-2-clause-gap
+returns-then-block-index-2-clause-gap g t c =
+    let f = at_fork c.in-Fork.parts (omega arith) (c.index.ensures ∙ ap (λ n. Some n) c.in-Fork.is) c.requires.tree in
+    let left = under c.args.nodes.now.slots c.in-Fork.parts.left in
+    cc (f.is, gap_from-append c.args.index left (under c.args.nodes.now.slots c.in-Fork.parts.right), gap_from-outside c.args.index _ _ left f.left.rises (inr c.if-block-index-2.true))
+
+pub returns-then-gap-block-clause-gap : goal.returns-then-gap-block-clause-gap
+returns-then-gap-block-clause-gap g t c =
+    let f = at_fork c.in-Fork.parts (omega arith) (c.index.ensures ∙ ap (λ n. Some n) c.in-Fork.is) c.requires.tree in
+    let right = under c.args.nodes.now.slots c.in-Fork.parts.right in
+    cc (f.is, gap_from-append c.args.index (under c.args.nodes.now.slots c.in-Fork.parts.left) right, gap_from-outside c.first_gap-gap.result _ _ right f.right.rises (inl c.if-gap-block.true))
+
+pub returns-else-gap-block-clause-gap : goal.returns-else-gap-block-clause-gap
+returns-else-gap-block-clause-gap g t c =
+    let f = at_fork c.in-Fork.parts (omega arith) (c.index.ensures ∙ ap (λ n. Some n) c.in-Fork.is) c.requires.tree in
+    cc (f.is, gap_from-append c.args.index (under c.args.nodes.now.slots c.in-Fork.parts.left) (under c.args.nodes.now.slots c.in-Fork.parts.right))
+
+pub returns-then-index-block-clause-gap : goal.returns-then-index-block-clause-gap
+returns-then-index-block-clause-gap g t c =
+    let f = at_fork c.in-Fork.parts (omega arith) (c.index.ensures ∙ ap (λ n. Some n) c.in-Fork.is) c.requires.tree in
+    sym (gap_from-outside c.args.index _ _ (under c.args.nodes.now.slots c.args.key) f.rises (elim c.then-index-block.either [ inl p ↦ inl p | inr q ↦ inr q.1 ]))
+
+pub returns-then-parts-block-clause-gap : goal.returns-then-parts-block-clause-gap
+returns-then-parts-block-clause-gap g t c =
+    let f = at_fork c.in-Fork.parts (omega arith) (c.index.ensures ∙ ap (λ n. Some n) c.in-Fork.is) c.requires.tree in
+    sym (gap_from-full c.args.index _ _ (under c.args.nodes.now.slots c.args.key) f.rises (omega (arith, f.count)) (omega arith) (omega arith))
