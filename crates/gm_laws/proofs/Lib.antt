@@ -37,6 +37,7 @@ pub mod Parts
 pub mod MoveAndDeletionRuled
 pub mod MarkedSlotRuled
 mod Marks
+pub mod QuietTouches
 pub mod PopulationAndCloseRuled
 pub mod OneReadPlays
 pub mod FlushPendingPlays

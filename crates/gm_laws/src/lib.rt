@@ -18,7 +18,7 @@ pub use meanings::{
 };
 pub use rightness::{
     bound_ranges_lie_inside, calls_see_their_rows, count_is_begins_less_ends,
-    frames_differ_everywhere, fronts_of_right_are_right, invariant_holds, right_is_ruled,
+    frames_differ_everywhere, fronts_of_right_are_right, invariant_holds, quiet_names, quiet_touches, right_is_ruled,
     ruled_is_right, slots_stand_apart, touches_are_named_now, touches_name_their_frames,
     turns_keep_ruled, words_are_last_written,
 };

@@ -20,7 +20,7 @@ ghost use Rattle.gm_laws.specs.Ruled.{Ruled};
 ghost use Rattle.gm_laws.specs.SlotsStand.{SlotsStand};
 ghost use Rattle.gm_laws.specs.Stands.{Stands};
 ghost use Rattle.gm_laws.specs.TouchFrames.{TouchFrames};
-ghost use Rattle.gm_laws.specs.TouchesNow.{TouchesNow};
+ghost use Rattle.gm_laws.specs.TouchesNow.{QuietNames, QuietTouches, TouchesNow};
 ghost use Rattle.gm_laws.specs.Turns.{IsTurn, onto};
 
 /// A history that follows the tables is right.
@@ -38,10 +38,20 @@ pub fn right_is_ruled()
     ensures { (o : Orders) (past : List Entry) → Right o past → Ruled o past }
 {}
 
-/// A touch has what is named at its own position, also while a conversion runs, and by a fill newer than every change on its
-/// page.
+/// A touch has what is named at its own position with marks left aside, also while a conversion runs, and by a fill newer than
+/// every change on its page.
 pub fn touches_are_named_now()
     ensures { (o : Orders) (past : List Entry) → Right o past → Each (λ e p. TouchesNow e.what e.actor p) past }
+{}
+
+/// Where no call stands between its Begin and its End, a touch has what is named at its own position.
+pub fn quiet_touches()
+    ensures { (o : Orders) (past : List Entry) → Right o past → Each (λ e p. QuietTouches e.what e.actor p) past }
+{}
+
+/// So has each touch of a history whose changes only make files and slots and write words.
+pub fn quiet_names()
+    ensures { (o : Orders) (past : List Entry) → Right o past → Each (λ e p. QuietNames e.what e.actor p) past }
 {}
 
 /// The word read of a folio is the last one written to it by a touch, else the one that it was added with.
