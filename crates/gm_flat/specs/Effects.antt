@@ -81,6 +81,7 @@ apply (Move slot base) f = record f { slots = moved slot base f.slots }
 apply (Attr span kind) f = record f { attrs = record { span = span; kind = kind } ∷ f.attrs }
 apply (Cut file lo hi) f = record f { cache = without file lo hi f.cache }
 apply (Shut file) f = shut file f
+-- the words are readings of their own, in Words
 apply (Word page word value) f = f
 
 -- folios
@@ -115,7 +116,8 @@ addition_fits d files = was_made d.file files && (nat_le (d.index + d.pages) U64
 abbrev pub if_fits : Addition → List FileState → Option Addition
 if_fits d files = if addition_fits d files then Some d else None
 
--- a Get with `fresh` 1 adds its folio, one with `fresh` 512 the aligned run that holds its index
+-- a Get with `fresh` 1 adds its folio, since the remainder of an index by 1 is 0; one with `fresh` 512 the aligned run that
+-- holds its index
 abbrev pub fresh_run : Folio → ℕ → ℕ → ℕ → List FileState → Option Addition
 fresh_run folio fresh file index files =
     if nat_le (index % fresh) folio.serial && nat_le (index % fresh) folio.frame

@@ -65,6 +65,10 @@ states (e ∷ past) =
 abbrev pub flat : List Entry → Flat
 flat past = (states past).now
 
+-- what an entry adds
+abbrev pub added_by : What → Actor → List Entry → Option Addition
+added_by w a past = adds w a past (states past)
+
 -- the flat state at position i
 abbrev pub flat_at : ℕ → List Entry → Flat
 flat_at i past = (states past).before i

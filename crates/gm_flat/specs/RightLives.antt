@@ -15,7 +15,7 @@ use Rattle.gm_flat.specs.declared.entry.What.TheVariants.{Get, Retry, Touch, Cha
 use Rattle.gm_flat.specs.Histories.{Fault, Faulting, fault, Call, call, same_turn, newest_turn, before_turn}
 use Rattle.gm_flat.specs.FlatState.{Flat, FileState, FolioState, Triple, cached, added, is_live, is_free, file_by_number}
 use Rattle.gm_flat.specs.Effects.{Addition}
-use Rattle.gm_flat.specs.Replay.{flat, flat_at, states, looked_slot, index_in, adds}
+use Rattle.gm_flat.specs.Replay.{flat, flat_at, looked_slot, index_in, added_by}
 use Rattle.gm_flat.specs.Calls.{PagePlan, Plan, Paged, plan}
 
 -- frames
@@ -170,9 +170,9 @@ pub record LivesAtRest (past : List Entry) : Type 0 where
   pub used_is_live : (serial : ℕ) → IsCached serial (flat past) ⊎ IsHeld serial past → is_live serial (flat past).folios ≡ true
 
 abbrev pub LivesOf : Setup → What → Actor → List Entry → Type 0
-LivesOf s (Get backing fresh) (Vcpu v) past = RightGetAdds s.frames fresh (fault v past) (adds (Get backing fresh) (Vcpu v) past (states past)) past
+LivesOf s (Get backing fresh) (Vcpu v) past = RightGetAdds s.frames fresh (fault v past) (added_by (Get backing fresh) (Vcpu v) past) past
 LivesOf s (Get backing fresh) (Caller c) past = ⊥
-LivesOf s (Page index folio pages) (Caller c) past = RightPageAdds s (call c past) (adds (Page index folio pages) (Caller c) past (states past)) past
+LivesOf s (Page index folio pages) (Caller c) past = RightPageAdds s (call c past) (added_by (Page index folio pages) (Caller c) past) past
 LivesOf s (Page index folio pages) (Vcpu v) past = ⊥
 LivesOf s (Touch a backing level value fill) actor past = IsLive backing (flat past)
 LivesOf s (Free folio pages) actor past = FreeIsRight folio pages past

@@ -13,7 +13,7 @@ use Rattle.gm_flat.specs.declared.entry.Entry.{Entry}
 use Rattle.gm_flat.specs.declared.entry.What.{What}
 use Rattle.gm_flat.specs.declared.entry.What.TheVariants.{Touch, Change}
 use Rattle.gm_flat.specs.Effects.{Addition}
-use Rattle.gm_flat.specs.Replay.{states, adds}
+use Rattle.gm_flat.specs.Replay.{added_by}
 
 -- what a word is after an access that goes to it or not
 abbrev pub written : Bool → Op → ℕ → ℕ
@@ -63,8 +63,8 @@ folio_step serial word _ x = x
 abbrev pub folio_word : ℕ → ℕ → List Entry → ℕ
 folio_word serial word [] = 0
 folio_word serial word (e ∷ past) =
-    if is_new serial (adds e.what e.actor past (states past))
-    then first_word serial word (adds e.what e.actor past (states past)) past
+    if is_new serial (added_by e.what e.actor past)
+    then first_word serial word (added_by e.what e.actor past) past
     else folio_step serial word e.what (folio_word serial word past)
 
 abbrev pub word_of : Backing → ℕ → List Entry → ℕ

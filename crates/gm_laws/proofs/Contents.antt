@@ -20,6 +20,7 @@ use Rattle.gm_flat.specs.RightHistory.{Each}
 use Rattle.gm_flat.specs.RightLives.{GetAdds, IsLive, LivesOf, PageAdds, RightGetAdds, RightPageAdds, plan_of}
 use Rattle.gm_flat.specs.RightOrder.{IsLooked}
 use Rattle.gm_flat.specs.Words.{first_word, folio_step, folio_word, hits_folio, is_new, written}
+use Rattle.gm_flat.specs.RightTouch.{IsValue}
 use Rattle.gm_flat.specs.declared.effect.Backing.{Backing}
 use Rattle.gm_flat.specs.declared.effect.Backing.TheVariants.{Folio as InFolio, User}
 use Rattle.gm_flat.specs.declared.effect.Effect.{Effect}
@@ -34,7 +35,7 @@ use Rattle.gm_laws.proofs.Kit.{by}
 use Rattle.gm_laws.proofs.Lives.{live_left, live_with}
 use Rattle.gm_laws.proofs.RuledIsRight.{each}
 use Rattle.gm_laws.proofs.Touches.{good, touched}
-use Rattle.gm_laws.specs.Contents.{added_word, last_step, last_write, or_else, write_if}
+use Rattle.gm_laws.specs.Contents.{ReadsTheLast, added_word, last_step, last_write, or_else, write_if}
 use Rattle.gm_laws.specs.May.{May}
 use Rattle.gm_laws.specs.Ruled.{Follows}
 use Rattle.gm_laws.specs.TouchesNow.{TouchesNow}
@@ -206,3 +207,20 @@ touches_now o w a past g m = tt
 
 pub each_now : (o : Orders) (past : List Entry) → Follows o past → Each (λ e p. TouchesNow e.what e.actor p) past
 each_now o past r = each o (λ e p. TouchesNow e.what e.actor p) (λ e p x f. touches_now o e.what e.actor p (good o p f) x.may) past r
+
+-- what a touch reads of a folio
+read_value : (op : Op) (value word : ℕ) → IsValue op word value → op ≡ Read → value ≡ word
+read_value Read value word v e = v
+read_value (Write x) value word v e = absurd (clash e)
+  where
+    clash : Write x ≡ Read → ⊥
+    clash e = cc
+
+reads_last : (o : Orders) (w : What) (a : Actor) (past : List Entry) → Follows o past → May o w a past → ReadsTheLast w a past
+reads_last o (Touch a (InFolio folio) level value fill) (Vcpu u) past r m = λ e. read_value a.op value (folio_word folio.serial a.word past) m.right_value e ∙ word_read o past folio.serial a.word r
+reads_last o (Touch a (User page) level value fill) (Vcpu u) past r m = tt
+reads_last o (Touch a b level value fill) (Caller c) past r m = absurd m
+reads_last o w a past r m = tt
+
+pub each_read : (o : Orders) (past : List Entry) → Follows o past → Each (λ e p. ReadsTheLast e.what e.actor p) past
+each_read o past r = each o (λ e p. ReadsTheLast e.what e.actor p) (λ e p x f. reads_last o e.what e.actor p f x.may) past r

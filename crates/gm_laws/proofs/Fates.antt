@@ -28,6 +28,7 @@ use Rattle.gm_flat.specs.declared.entry.Entry.{Entry}
 use Rattle.gm_flat.specs.declared.entry.What.{What}
 use Rattle.gm_flat.specs.declared.entry.What.TheVariants.{Change, Enter, Free, Get, Gone, Install, Left, Look, Miss, Page, Retry, Sample, Touch}
 use Rattle.gm_flat.specs.declared.views.SlotView.{SlotView}
+use Rattle.gm_laws.proofs.Keep.{at_vcpu}
 use Rattle.gm_laws.proofs.Adds.{IsRunFree, add_cached, get_free, page_free}
 use Rattle.gm_laws.proofs.Flats.{cond_P, over, with_run_at}
 use Rattle.gm_laws.proofs.Folios.{LivesOk, effect_keeps, lives}
@@ -63,9 +64,6 @@ sampled_idle x i e = subst IsSampled e i
 
 looked_idle : (x : Fault) → IsLooked x → x ≡ NoFault → ⊥
 looked_idle x i e = subst IsLooked e i
-
-at_vcpu : (u v : ℕ) (P : ℕ → Type 0) → eqb u v ≡ true → P u → P v
-at_vcpu u v P e x = subst P (eqb-true u v e) x
 
 idle_keep : (o : Orders) (t : ℕ) (w : What) (a : Actor) (past : List Entry) → InsideIdle past → May o w a past → InsideIdle (by t a w ∷ past)
 idle_keep o t Enter (Vcpu u) past g m v = λ h. by_eq (eqb u v) refl h

@@ -31,7 +31,6 @@ use Rattle.gm_laws.proofs.Kit.{by, cond_is, none_is, some_same}
 use Rattle.gm_laws.proofs.Lives.{frame_free, frame_with, free_none, live_stays, live_with}
 use Rattle.gm_laws.specs.May.{May}
 use Rattle.gm_laws.specs.Ruled.{Follows}
-use Rattle.gm_laws.specs.WrongBodies.{at}
 
 pub record LivesOk (past : List Entry) : Type 0 where
   pub cached_live : (s : ℕ) → IsCached s (flat past) → is_live s (flat past).folios ≡ true

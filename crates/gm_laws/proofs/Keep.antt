@@ -34,7 +34,7 @@ cond_fault : (past : List Entry) (t : Bool) (x y : Fault) → (t ≡ true → Fa
 cond_fault past true x y f h = f refl
 cond_fault past false x y f h = h
 
-look_more : (e : Entry) (a : Aim) (s : ℕ) (l : Seen) (past : List Entry) → LookOk a s l past → LookOk a s l (e ∷ past)
+pub look_more : (e : Entry) (a : Aim) (s : ℕ) (l : Seen) (past : List Entry) → LookOk a s l past → LookOk a s l (e ∷ past)
 look_more e a s l past x =
     let same : flat_at l.at (e ∷ past) ≡ flat_at l.at past = flat_at_keep l.at e past (let p = x.at_le in let q = x.place_lt in omega arith) in
     record {
@@ -71,7 +71,7 @@ sample_fault past s (Faulting a m None None (Some q)) i = absurd i
 sample_fault past s (Faulting a m None (Some l) q) i = absurd i
 sample_fault past s (Faulting a m (Some k) l q) i = absurd i
 
-look_fault : (past : List Entry) (at : ℕ) (slot : Option ℕ) (attr : Kind) (file : Option ℕ) (e : Entry) (x : Fault) → IsSampled x → RightSeen at slot attr file past x → FaultOk (e ∷ past) (with_look (record { place = length past; at = at; slot = slot; attr = attr; file = file }) x)
+pub look_fault : (past : List Entry) (at : ℕ) (slot : Option ℕ) (attr : Kind) (file : Option ℕ) (e : Entry) (x : Fault) → IsSampled x → RightSeen at slot attr file past x → FaultOk (e ∷ past) (with_look (record { place = length past; at = at; slot = slot; attr = attr; file = file }) x)
 look_fault past at slot attr file e (Faulting a m (Some s) None None) i r =
     let same : flat_at at (e ∷ past) ≡ flat_at at past = flat_at_keep at e past r.so_far in
     record {
@@ -102,7 +102,7 @@ get_fault t u n frames past b (Faulting a m (Some s) None q) none looks ids h i 
 get_fault t u n frames past b (Faulting a m None l q) none looks ids h i g adding e = absurd i
 get_fault t u n frames past b NoFault none looks ids h i g adding e = absurd i
 
-at_vcpu : (u v : ℕ) (P : ℕ → Type 0) → eqb u v ≡ true → P u → P v
+pub at_vcpu : (u v : ℕ) (P : ℕ → Type 0) → eqb u v ≡ true → P u → P v
 at_vcpu u v P e x = subst P (eqb-true u v e) x
 
 pub faults_keep : (o : Orders) (t : ℕ) (w : What) (a : Actor) (past : List Entry) → IdsAt past → Good o.setup.callers past → May o w a past → FaultsOk (by t a w ∷ past)

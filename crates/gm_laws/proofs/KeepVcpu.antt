@@ -182,7 +182,7 @@ keep_install o t u page level past ids g m =
     }
 
 -- a touch
-Mem-fill : (f : Mapping) (t : Bool) (n : ℕ) (a : Aim) (level : Level) (fl : Flat) (fs : List Mapping) → Mem f (fill_if t n a level fl fs) → Mem f fs ⊎ ((t ≡ true) × (f ≡ record { made = n; page = a.page; level = level; kind = a.kind; gives = λ h. named fl h }))
+pub Mem-fill : (f : Mapping) (t : Bool) (n : ℕ) (a : Aim) (level : Level) (fl : Flat) (fs : List Mapping) → Mem f (fill_if t n a level fl fs) → Mem f fs ⊎ ((t ≡ true) × (f ≡ record { made = n; page = a.page; level = level; kind = a.kind; gives = λ h. named fl h }))
 Mem-fill f false n a level fl fs m = inl m
 Mem-fill f true n a level fl fs m =
     elim (Mem-take BUFFER_FILLS f (record { made = n; page = a.page; level = level; kind = a.kind; gives = λ h. named fl h } ∷ fs) m) [

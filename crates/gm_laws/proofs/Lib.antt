@@ -38,6 +38,9 @@ pub mod MoveAndDeletionRuled
 pub mod MarkedSlotRuled
 mod Marks
 pub mod QuietTouches
+mod Closed
+mod LooksKept
+pub mod FlatFronts
 pub mod PopulationAndCloseRuled
 pub mod OneReadPlays
 pub mod FlushPendingPlays

@@ -1,5 +1,6 @@
 -- The parts of the invariant, in their own words.
-use Rattle.std.proofs.Common.{◌<◌, List, None, Option, Some, [], ap, arith, inl, inr, length, refl, subst, suc, sym, true, ℕ, ◌∙◌, ◌∷◌, ◌≡◌, ◌≤◌, ◌⊎◌}
+use Rattle.std.proofs.Common.{◌<◌, List, false, None, Option, Some, [], ap, arith, inl, inr, length, refl, subst, suc, sym, true, ℕ, ◌∙◌, ◌∷◌, ◌≡◌, ◌≤◌, ◌⊎◌}
+use Rattle.std.proofs.lemmas.Bool.{both_ways}
 use Rattle.gm_base.specs.Aim.{Aim}
 use Rattle.gm_base.specs.Scripts.{Orders}
 use Rattle.gm_base.specs.declared.values.Actor.{Actor}
@@ -9,8 +10,8 @@ use Rattle.gm_base.specs.declared.values.Level.{Level}
 use Rattle.gm_flat.specs.FlatState.{Flat}
 use Rattle.gm_flat.specs.Histories.{Fault, Faulting, Gotten, NoFault, Seen, fault}
 use Rattle.gm_flat.specs.Invalidation.{stale}
-use Rattle.gm_flat.specs.Mappings.{Mapping, covered, fills, leaves, off_extent}
-use Rattle.gm_flat.specs.NamedPage.{Named, named}
+use Rattle.gm_flat.specs.Mappings.{Mapping, covered, fills, inside, leaves, off_extent}
+use Rattle.gm_flat.specs.NamedPage.{Named, named, named_aside}
 use Rattle.gm_flat.specs.Replay.{flat, flat_at, looked_slot}
 use Rattle.gm_flat.specs.RightHistory.{Right}
 use Rattle.gm_flat.specs.RightTouch.{CanUse}
@@ -18,7 +19,15 @@ use Rattle.gm_flat.specs.declared.entry.Entry.{Entry}
 use Rattle.gm_flat.specs.declared.entry.What.{What}
 use Rattle.gm_flat.specs.declared.entry.What.TheVariants.{Begin, Install}
 use Rattle.gm_flat.specs.declared.views.SlotView.{SlotView}
+use Rattle.gm_flat.specs.Attribute.{attr_of}
+use Rattle.gm_flat.specs.RightLives.{IsCached}
+use Rattle.gm_flat.specs.RightLook.{file_of}
+use Rattle.gm_base.specs.declared.values.Folio.{Folio}
+use Rattle.gm_laws.proofs.Closed.{all_since}
+use Rattle.gm_laws.proofs.Fates.{named_folio}
+use Rattle.gm_laws.proofs.Flats.{named_is_aside, over}
 use Rattle.gm_laws.proofs.Fronts.{front_follows}
+use Rattle.gm_laws.proofs.LooksKept.{LookKept, looks_kept}
 use Rattle.gm_laws.proofs.Good.{FaultOk, GotOk, KindIs, LookOk, LooksSince, Since}
 use Rattle.gm_laws.proofs.Grow.{looked_over, stale_since}
 use Rattle.gm_laws.proofs.Ids.{IdsAt}
@@ -26,7 +35,7 @@ use Rattle.gm_laws.proofs.KeepVcpu.{IsNewLeaf, Mem-install, use_now}
 use Rattle.gm_laws.proofs.Kit.{Mem, Mem-off_extent, Mem-off_spans, by, by_test, flat_at_all, flat_at_keep}
 use Rattle.gm_laws.proofs.RightIsRuled.{ruled}
 use Rattle.gm_laws.proofs.Touches.{good, locks}
-use Rattle.gm_laws.specs.Invariant.{HasKind, Invariant, IsTrueFault, IsTrueLook}
+use Rattle.gm_laws.specs.Invariant.{GivesFolio, HasKind, Invariant, IsTrueFault, IsTrueLook}
 use Rattle.gm_laws.specs.Readings.{Among}
 use Rattle.gm_laws.specs.Ruled.{Follows}
 use Rattle.gm_laws.specs.Stands.{Stands}
@@ -87,7 +96,7 @@ true_look a s l past (Some r) e looks ids ok =
       | inl x ↦ inl (stale_since s l.at a.page past ok.sampled (inl x))
       | inr y ↦ elim y [
         | inl x ↦ inl (stale_since s l.at a.page past ok.sampled (inr x))
-        | inr x ↦ inr (x.0, x.1 ∙ sym ok.attr_is)
+        | inr x ↦ inr (x.0, (ok.file_is ∙ ap file_of (sym (looked_over a s l past ids ok) ∙ e)), x.1 ∙ sym ok.attr_is)
       ]
     ]
 
@@ -98,12 +107,21 @@ true_got a s q past since ok =
       | inr x ↦ by_test (stale (Some s) a.page past) (λ y. inl y) (λ n. inr (use_now past s q.after a.page a q.backing (named (flat_at q.after past) a.page) since ok.sampled ok.after_le refl n x))
     ]
 
-true_fault : (x : Fault) (past : List Entry) → LooksSince past → Since past → IdsAt past → FaultOk past x → IsTrueFault past x
-true_fault (Faulting a m (Some s) (Some l) None) past looks since ids ok = true_look a s l past (looked_slot l past) refl looks ids ok
-true_fault (Faulting a m (Some s) (Some l) (Some q)) past looks since ids ok = true_got a s q past since ok
-true_fault (Faulting a m (Some s) None q) past looks since ids ok = tt
-true_fault (Faulting a m None l q) past looks since ids ok = tt
-true_fault NoFault past looks since ids ok = tt
+true_fault : (x : Fault) (past : List Entry) → LooksSince past → Since past → IdsAt past → FaultOk past x → LookKept past x → IsTrueFault past x
+true_fault (Faulting a m (Some s) (Some l) None) past looks since ids ok k = (true_look a s l past (looked_slot l past) refl looks ids k, tt)
+true_fault (Faulting a m (Some s) (Some l) (Some q)) past looks since ids ok k = (true_look a s l past (looked_slot l past) refl looks ids k, true_got a s q past since ok)
+true_fault (Faulting a m (Some s) None q) past looks since ids ok k = tt
+true_fault (Faulting a m None l q) past looks since ids ok k = tt
+true_fault NoFault past looks since ids ok k = tt
+
+-- a folio that is given is cached
+given_cached : (folio : Folio) (f : Flat) (h : ℕ) (o : Option Named) → named_aside f h ≡ o → GivesFolio folio o → IsCached folio.serial f
+given_cached folio f h None e g = absurd g
+given_cached folio f h (Some m) e g = let x = named_folio f h folio (attr_of h f.attrs) (over h f.slots) m e g in (x.0, x.1, folio, x.2, refl)
+
+leaf_cached : (folio : Folio) (f : Flat) (h : ℕ) (o : Option Named) → named f h ≡ o → GivesFolio folio o → IsCached folio.serial f
+leaf_cached folio f h None e g = absurd g
+leaf_cached folio f h (Some m) e g = given_cached folio f h (Some m) (named_is_aside f h m e) g
 
 pub invariant_by : (o : Orders) (past : List Entry) → Follows o past → Invariant past
 invariant_by o past r =
@@ -121,7 +139,18 @@ invariant_by o past r =
           let x = g.fill_in v m (mem_among m (fills v past) i) in
           record { since_flush = x.0; then_named = x.1.1 h; has_kind = kind_has m.kind (m.gives h) (x.1.2 h c); now_or_out = g.fill_names v h m (mem_among m (fills v past) i) c };
       flushed_inside = record { is_flushed = g.is_flushed; is_asked = g.asked; in_hull_of = g.in_hull_of };
-      faults_are_stale_or_true = λ v. true_fault (fault v past) past g.looks g.since k.ids (g.faults v);
+      since_brackets = record {
+        not_between = λ v h x m i f c q. (all_since o past r x i).fresh v h m (mem_among m (fills v past) f) c q;
+        is_flushed = λ v x i q n. (all_since o past r x i).is_flushed v q n;
+      };
+      faults_are_stale_or_true = λ v. true_fault (fault v past) past g.looks g.since k.ids (g.faults v) (looks_kept o past r v);
+      names_cached = record {
+        by_leaf = λ m h folio i c q. leaf_cached folio (flat past) h (m.gives h) (g.leaf_names m h (mem_among m (leaves past) i) c).0 q;
+        by_fill = λ v m h folio n i c q. elim (g.fill_names v h m (mem_among m (fills v past) i) c) [
+          | inl x ↦ given_cached folio (flat past) h (m.gives h) x.0 q
+          | inr x ↦ absurd (both_ways (inside v past) x.0 n)
+        ];
+      };
     }
 
 pub invariant_now : (o : Orders) (past : List Entry) → Right o past → Invariant past

@@ -26,7 +26,6 @@ use Rattle.gm_laws.proofs.LocksKeep.{CanChange, can_change}
 use Rattle.gm_laws.proofs.Plans.{Fits, fits}
 use Rattle.gm_laws.proofs.Rows.{false_true}
 use Rattle.gm_laws.specs.Ruled.{cuts, loosens}
-use Rattle.gm_laws.specs.WrongBodies.{at}
 
 abbrev pub none_loose : List What → Bool
 none_loose [] = true

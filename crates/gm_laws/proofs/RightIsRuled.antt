@@ -25,7 +25,7 @@ use Rattle.gm_flat.specs.declared.effect.Backing.{Backing}
 use Rattle.gm_flat.specs.declared.entry.Entry.{Entry}
 use Rattle.gm_flat.specs.declared.entry.What.{What}
 use Rattle.gm_flat.specs.declared.entry.What.TheVariants.{Acked, Answer, Begin, Change, End, Enter, Flush, Free, Get, Gone, Install, Judge, Left, Look, Miss, Page, Retry, Sample, Touch}
-use Rattle.gm_laws.proofs.Contents.{each_now, word_read}
+use Rattle.gm_laws.proofs.Contents.{each_now, each_read, word_read}
 use Rattle.gm_laws.proofs.Good.{Good}
 use Rattle.gm_laws.proofs.KeepVcpu.{IsFirst, is_first, serves_use}
 use Rattle.gm_laws.proofs.Kit.{by_test, flat_at_all}
@@ -33,12 +33,11 @@ use Rattle.gm_laws.proofs.Locks.{Locks}
 use Rattle.gm_laws.proofs.MoreReadings.{count_is_rest}
 use Rattle.gm_laws.proofs.Prefix.{IsBegun, after_judge, begun_back, loose_first, same_row_actor, whole_begun}
 use Rattle.gm_laws.proofs.Touches.{good, locks}
-use Rattle.gm_laws.specs.Contents.{added_word, last_write, or_else}
+use Rattle.gm_laws.specs.Contents.{ReadsTheLast, added_word, last_write, or_else}
 use Rattle.gm_laws.specs.May.{Backs, May, MayInstall, MayRetry, MayTouch, ServedBy}
 use Rattle.gm_laws.specs.Readings.{how_many, is_begin, is_end}
 use Rattle.gm_laws.specs.Ruled.{AllFreed, Follows, Ruled, loosens}
 use Rattle.gm_laws.specs.TouchesNow.{TouchesNow}
-use Rattle.gm_laws.specs.WrongBodies.{at}
 
 -- the facts of a right history, as far as an entry
 pub record RightSoFar (o : Orders) (past : List Entry) : Type 0 where
@@ -202,3 +201,6 @@ right_word o past r serial word = word_read o past serial word (ruled o past r).
 
 pub right_count : (o : Orders) (past : List Entry) → Right o past → how_many is_begin past ≡ how_many is_end past + count past
 right_count o past r = count_is_rest o past (ruled o past r).follows
+
+pub reads_of_right : (o : Orders) (past : List Entry) → Right o past → Each (λ e p. ReadsTheLast e.what e.actor p) past
+reads_of_right o past r = each_read o past (ruled o past r).follows

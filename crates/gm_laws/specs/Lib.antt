@@ -2,6 +2,7 @@ pub mod BoundRanges
 pub mod Contents
 pub mod Conversion
 pub mod FlushPending
+pub mod Fronts
 pub mod HeldPage
 pub mod Invariant
 pub mod JudgedRows

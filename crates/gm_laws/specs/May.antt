@@ -14,7 +14,7 @@ use Rattle.gm_flat.specs.declared.entry.What.{What}
 use Rattle.gm_flat.specs.declared.entry.What.TheVariants.{Enter, Flush, Miss, Sample, Look, Get, Install, Retry, Touch, Left, Judge, Begin, Acked, Change, Page, End, Answer, Free, Gone}
 use Rattle.gm_flat.specs.Histories.{Fault, Faulting, fault, call, bracket}
 use Rattle.gm_flat.specs.NamedPage.{Named}
-use Rattle.gm_flat.specs.Replay.{flat, states, adds}
+use Rattle.gm_flat.specs.Replay.{flat, added_by}
 use Rattle.gm_flat.specs.Words.{word_of}
 use Rattle.gm_flat.specs.Mappings.{Mapping, pending, inside, fills, leaves, first_serving}
 use Rattle.gm_flat.specs.Invalidation.{stale}
@@ -63,7 +63,7 @@ May o Flush (Vcpu v) past = pending v past ≡ true
 May o (Miss a) (Vcpu v) past = MayMiss o v a past
 May o (Sample at) (Vcpu v) past = IsMissed (fault v past) × RightSample at past (fault v past)
 May o (Look at slot attr file) (Vcpu v) past = IsSampled (fault v past) × RightSeen at slot attr file past (fault v past)
-May o (Get backing fresh) (Vcpu v) past = IsLooked (fault v past) × RightGet backing fresh past (fault v past) × RightGetAdds o.setup.frames fresh (fault v past) (adds (Get backing fresh) (Vcpu v) past (states past)) past
+May o (Get backing fresh) (Vcpu v) past = IsLooked (fault v past) × RightGet backing fresh past (fault v past) × RightGetAdds o.setup.frames fresh (fault v past) (added_by (Get backing fresh) (Vcpu v) past) past
 May o (Install page level) (Vcpu v) past = MayInstall page past (fault v past) × LevelIs level o.setup.huge page past
 May o Retry (Vcpu v) past = MayRetry past (fault v past)
 May o (Touch a backing level value fill) (Vcpu v) past = MayTouch o v a backing level value fill past
@@ -72,7 +72,7 @@ May o (Judge ioctl) (Caller c) past = Judges o c ioctl past
 May o (Begin spans) (Caller c) past = Begins (call c past) (bracket c past) × RightBegin o.setup spans.list (call c past) past
 May o Acked (Caller c) past = Acks (bracket c past) past
 May o (Change effect) (Caller c) past = Changes o.setup effect (call c past) (bracket c past) past × RightChange o.setup effect (call c past) past
-May o (Page index folio pages) (Caller c) past = (bracket c past ≡ None) × RightPage o.setup index (call c past) past × RightPageAdds o.setup (call c past) (adds (Page index folio pages) (Caller c) past (states past)) past
+May o (Page index folio pages) (Caller c) past = (bracket c past ≡ None) × RightPage o.setup index (call c past) past × RightPageAdds o.setup (call c past) (added_by (Page index folio pages) (Caller c) past) past
 May o End (Caller c) past = Ends (call c past) (bracket c past)
 May o (Answer reply) (Caller c) past = (bracket c past ≡ None) × RightAnswer o.setup reply (call c past) past
 May o (Free folio pages) (Vcpu v) past = FreeIsRight folio pages past

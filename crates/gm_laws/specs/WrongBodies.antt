@@ -1,5 +1,5 @@
 -- Histories that a wrong body would write. Each begins as a history may, and its newest entry is the wrong one.
-use Rattle.std.specs.Prelude.{List, None, Some, [], false, length, nat_le, ℕ, ◌∷◌, if◌then◌else◌}
+use Rattle.std.specs.Prelude.{List, None, Some, [], false, ◌∷◌}
 use Rattle.gm_base.specs.Scripts.{Orders}
 use Rattle.gm_base.specs.declared.calls.Ioctl.TheVariants.{Attrs, Create, Punch, Region2}
 use Rattle.gm_base.specs.declared.script.Command.TheVariants.{Call as CallCommand, Touch as TouchCommand}
@@ -14,17 +14,13 @@ use Rattle.gm_flat.specs.declared.effect.Reply.TheVariants.{Good as GoodReply}
 use Rattle.gm_flat.specs.declared.entry.Entry.{Entry}
 use Rattle.gm_flat.specs.declared.entry.What.TheVariants.{Acked, Answer, Begin, Change, End, Enter, Flush, Free, Get, Install, Judge, Left, Look, Miss, Retry, Sample, Touch}
 use Rattle.gm_laws.specs.FlushPending.{flush_pending}
+use Rattle.gm_laws.specs.Fronts.{front}
 use Rattle.gm_laws.specs.HeldPage.{held_page}
 use Rattle.gm_laws.specs.MarkedSlot.{marked_slot}
 use Rattle.gm_laws.specs.MixedBlock.{mixed_block}
 use Rattle.gm_laws.specs.MoveAndDeletion.{move_and_deletion}
 use Rattle.gm_laws.specs.OneRead.{one_read}
 use Rattle.gm_laws.specs.Rows.{entry}
-
--- the first n entries of a history
-abbrev pub at : ℕ → List Entry → List Entry
-at n [] = []
-at n (e ∷ past) = if nat_le (length (e ∷ past)) n then e ∷ past else at n past
 
 -- Two brackets, and a fault whose page lies in the gap between their spans.
 abbrev pub two_brackets_orders : Orders
@@ -174,27 +170,27 @@ resets_the_range = entry 13 (Vcpu 0) (Install 8 Small) ∷ two_brackets
 
 -- a bracket that asks for flushes only where it took a leaf away
 abbrev pub asks_only_where_a_leaf_went : List Entry
-asks_only_where_a_leaf_went = entry 12 (Caller 0) Acked ∷ at 13 flush_pending
+asks_only_where_a_leaf_went = entry 12 (Caller 0) Acked ∷ front 13 flush_pending
 
 -- a cut that frees a page which a fault holds
 abbrev pub frees_a_held_page : List Entry
-frees_a_held_page = entry 16 (Caller 0) (Free (record { serial = 0; frame = 0 }) 1) ∷ at 22 held_page
+frees_a_held_page = entry 16 (Caller 0) (Free (record { serial = 0; frame = 0 }) 1) ∷ front 22 held_page
 
 -- a 2 MiB leaf while a begun span meets its block
 abbrev pub block_leaf_beside_a_change : List Entry
-block_leaf_beside_a_change = entry 15 (Vcpu 0) (Install 0 Block) ∷ entry 14 (Caller 0) (Begin (record { list = (record { lo = 5; hi = 6 }) ∷ []; spare = 0 })) ∷ entry 13 (Caller 0) (Judge (Attrs 20480 4096 0 0)) ∷ at 18 mixed_block
+block_leaf_beside_a_change = entry 15 (Vcpu 0) (Install 0 Block) ∷ entry 14 (Caller 0) (Begin (record { list = (record { lo = 5; hi = 6 }) ∷ []; spare = 0 })) ∷ entry 13 (Caller 0) (Judge (Attrs 20480 4096 0 0)) ∷ front 18 mixed_block
 
 -- mixed flags that aren't renewed for a block that a range cuts
 abbrev pub edges_not_renewed : List Entry
-edges_not_renewed = entry 26 (Vcpu 0) (Install 0 Block) ∷ at 32 mixed_block
+edges_not_renewed = entry 26 (Vcpu 0) (Install 0 Block) ∷ front 32 mixed_block
 
 -- a zap of one page that leaves the 2 MiB leaf over it
 abbrev pub leaves_the_block_leaf : List Entry
-leaves_the_block_leaf = entry 22 (Vcpu 0) (Touch (record { page = 0; word = 1; op = Read; kind = Private }) (InFolio (record { serial = 0; frame = 0 })) Block 0 28) ∷ at 28 mixed_block
+leaves_the_block_leaf = entry 22 (Vcpu 0) (Touch (record { page = 0; word = 1; op = Read; kind = Private }) (InFolio (record { serial = 0; frame = 0 })) Block 0 28) ∷ front 28 mixed_block
 
 -- a fault that always retries
 abbrev pub always_retries : List Entry
-always_retries = entry 7 (Vcpu 0) Retry ∷ at 8 one_read
+always_retries = entry 7 (Vcpu 0) Retry ∷ front 8 one_read
 
 -- a new folio whose frame keeps its old words
 abbrev pub keeps_old_words : List Entry
@@ -202,7 +198,7 @@ keeps_old_words = entry 28 (Vcpu 0) (Touch (record { page = 0; word = 0; op = Re
 
 -- a conversion that changes and answers before its Acked
 abbrev pub answers_before_acked : List Entry
-answers_before_acked = entry 12 (Caller 0) (Change (Attr (record { lo = 0; hi = 1 }) Private)) ∷ at 13 flush_pending
+answers_before_acked = entry 12 (Caller 0) (Change (Attr (record { lo = 0; hi = 1 }) Private)) ∷ front 13 flush_pending
 
 -- an exit decided by the attribute at the Miss and not at the Look
 abbrev pub exits_by_the_miss : List Entry
@@ -214,20 +210,20 @@ overlooks_the_last_page = entry 3 (Caller 0) (Answer (GoodReply 0)) ∷ entry 3 
 
 -- a look that answers the generation before
 abbrev pub looks_at_the_generation_before : List Entry
-looks_at_the_generation_before = entry 5 (Vcpu 0) (Look 6 None Shared None) ∷ at 6 one_read
+looks_at_the_generation_before = entry 5 (Vcpu 0) (Look 6 None Shared None) ∷ front 6 one_read
 
 -- a fault that finds a marked slot and leaves the guest
 abbrev pub exits_by_a_marked_slot : List Entry
-exits_by_a_marked_slot = entry 8 (Vcpu 0) (Left (MemoryFault 0 0 4096)) ∷ at 11 marked_slot
+exits_by_a_marked_slot = entry 8 (Vcpu 0) (Left (MemoryFault 0 0 4096)) ∷ front 11 marked_slot
 
 -- a fault that finds a marked slot and installs its page
 abbrev pub installs_by_a_marked_slot : List Entry
-installs_by_a_marked_slot = entry 9 (Vcpu 0) (Install 0 Small) ∷ entry 8 (Vcpu 0) (Get (User 0) 0) ∷ at 11 marked_slot
+installs_by_a_marked_slot = entry 9 (Vcpu 0) (Install 0 Small) ∷ entry 8 (Vcpu 0) (Get (User 0) 0) ∷ front 11 marked_slot
 
 -- a deletion that doesn't mark its slot in the turn of its Begin
 abbrev pub deletes_without_a_mark : List Entry
-deletes_without_a_mark = entry 4 (Caller 0) Acked ∷ at 5 marked_slot
+deletes_without_a_mark = entry 4 (Caller 0) Acked ∷ front 5 marked_slot
 
 -- a slot that stays marked after its move, so that a fault retries
 abbrev pub keeps_the_mark : List Entry
-keeps_the_mark = entry 11 (Vcpu 0) Retry ∷ at 15 move_and_deletion
+keeps_the_mark = entry 11 (Vcpu 0) Retry ∷ front 15 move_and_deletion

@@ -8,7 +8,9 @@ ghost use Rattle.gm_flat.specs.Calls.{all_have};
 ghost use Rattle.gm_flat.specs.FlatState.{AttrCall};
 ghost use Rattle.gm_flat.specs.Invalidation.{ended, hull};
 ghost use Rattle.gm_flat.specs.Mappings.{Mapping, fills, flushed, inside, leaves, pending};
+ghost use Rattle.gm_flat.specs.Replay.{flat, flat_at};
 ghost use Rattle.gm_flat.specs.declared.entry.Entry.{Entry};
+ghost use Rattle.gm_laws.specs.Fronts.{front};
 ghost use Rattle.gm_laws.specs.Readings.{Among, AttributeIsLast, FlushedIsLast, HasBeginFrom, HasEndFrom, IsFillSince, IsLeastHull, IsStanding, LastIsEnter, SettledIsLeast, SettledIsOne, all_fills, kept_spans};
 
 /// `flushed` is the position after the vCPU's last Flush, and 0 where there is none.
@@ -31,7 +33,7 @@ pub fn leaves_are_standing_installs()
     ensures { (m : Mapping) (past : List Entry) → Among m (leaves past) ↔ IsStanding m past }
 {}
 
-/// The fills are the last 64 of the vCPU's Touches since its last Flush whose fill is their own position.
+/// The fills are the last 256 of the vCPU's Touches since its last Flush whose fill is their own position.
 pub fn fills_are_the_last_touches()
     ensures last { (v : ℕ) (past : List Entry) → fills v past ≡ take BUFFER_FILLS (all_fills v past) }
     ensures since { (v : ℕ) (m : Mapping) (past : List Entry) → Among m (all_fills v past) ↔ IsFillSince v m past }
@@ -46,6 +48,11 @@ pub fn hull_is_the_least_span()
 /// A page is stale since a position by an End exactly where an End stands at or after it.
 pub fn ended_is_an_end()
     ensures { (n : ℕ) (past : List Entry) → (ended n past ≡ true) ↔ HasEndFrom n past }
+{}
+
+/// The flat state at a position is that of the entries before it.
+pub fn flat_at_is_the_front()
+    ensures { (i : ℕ) (past : List Entry) → flat_at i past ≡ flat (front i past) }
 {}
 
 /// The replay's attribute of a page is the kind of the last call whose span holds the page, and shared where none does.

@@ -11,7 +11,7 @@ ghost use Rattle.gm_base.specs.declared.values.Actor.{Actor};
 ghost use Rattle.gm_flat.specs.declared.entry.Entry.{Entry};
 ghost use Rattle.gm_flat.specs.declared.entry.What.{What};
 ghost use Rattle.gm_laws.specs.BoundRanges.{BoundRanges};
-ghost use Rattle.gm_laws.specs.Contents.{added_word, last_write, or_else};
+ghost use Rattle.gm_laws.specs.Contents.{ReadsTheLast, added_word, last_write, or_else};
 ghost use Rattle.gm_laws.specs.Invariant.{Invariant};
 ghost use Rattle.gm_laws.specs.JudgedRows.{CallsGoOn, SeesItsRow};
 ghost use Rattle.gm_laws.specs.LivesEverywhere.{LivesEverywhere};
@@ -57,6 +57,12 @@ pub fn quiet_names()
 /// The word read of a folio is the last one written to it by a touch, else the one that it was added with.
 pub fn words_are_last_written()
     ensures { (o : Orders) (past : List Entry) → Right o past → (serial word : ℕ) → folio_word serial word past ≡ or_else (last_write serial word past) (added_word serial word past) }
+{}
+
+/// A touch that reads a folio has the value of the last write to that word by a touch, else the word that the folio was added
+/// with.
+pub fn reads_have_the_last_write()
+    ensures { (o : Orders) (past : List Entry) → Right o past → Each (λ e p. ReadsTheLast e.what e.actor p) past }
 {}
 
 /// The count of invalidations in progress is the number of Begins less the number of Ends.
