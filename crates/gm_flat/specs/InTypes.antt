@@ -104,9 +104,12 @@ abbrev pub IsActorInTypes : Actor → Type 0
 IsActorInTypes (Vcpu v) = IsU64 v
 IsActorInTypes (Caller c) = IsU64 c
 
+abbrev pub IsEntryInTypes : Entry → Type 0
+IsEntryInTypes e = IsU64 e.turn × IsActorInTypes e.actor × IsWhatInTypes e.what
+
 abbrev pub AreInTypes : List Entry → Type 0
 AreInTypes [] = Unit {0}
-AreInTypes (e ∷ es) = (IsU64 e.turn × IsActorInTypes e.actor × IsWhatInTypes e.what) × AreInTypes es
+AreInTypes (e ∷ es) = IsEntryInTypes e × AreInTypes es
 
 -- an entry without the spare room of its spans
 abbrev pub roomless : What → What
