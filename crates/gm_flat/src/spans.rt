@@ -43,6 +43,7 @@ impl Spans {
         ensures succeeds { 0 < self.old.spare → IsOk result }
         ensures err { OnErr result (self.new ≡ self.old) }
     {
+        // Read for what the span's type says of them.
         let _lo = span.lo();
         let _hi = span.hi();
         self.items.push(span)?;
