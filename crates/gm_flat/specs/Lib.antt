@@ -3,10 +3,12 @@ pub mod Calls
 pub mod Effects
 pub mod FlatState
 pub mod Histories
+pub mod InTypes
 pub mod Invalidation
 pub mod Locks
 pub mod Mappings
 pub mod NamedPage
+pub mod Plain
 pub mod Plays
 pub mod Replay
 pub mod Replayed

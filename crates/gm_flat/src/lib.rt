@@ -9,12 +9,14 @@ mod flat_lists;
 mod flat_past;
 mod flat_runs;
 mod flat_state;
+mod in_types;
 mod spans;
 mod views;
 
 pub use effect::{Backing, Effect, Exit, Reply};
 pub use entry::{Entry, What};
 pub use flat::Flat;
+pub use in_types::is_in_types;
 pub use spans::Spans;
 pub use views::{Looked, Sampled, Sighting, SlotView};
 

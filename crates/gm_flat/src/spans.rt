@@ -1,6 +1,7 @@
 //! A list of spans with room to spare.
 
 ghost use Rattle.std.specs.Prelude.{◌≡◌, ◌+◌, ◌-◌, ◌<◌, ◌≤◌, ◌++◌, ◌∷◌, [], OnOk, OnErr, IfOk, IsOk};
+ghost use Rattle.gm_flat.specs.Roomy.{AreOfPages};
 
 use gm_base::{NoMemory, Span};
 use std::alloc::{AllocError, Global};
@@ -16,13 +17,13 @@ pub struct Spans {
 
 impl Model for Spans {
     ghost use Rattle.std.specs.Prelude.{ℕ, ◌+◌, ◌≤◌, vec_capacity, vec_len};
-    ghost use Rattle.gm_flat.specs.Roomy.{Roomy};
+    ghost use Rattle.gm_flat.specs.Roomy.{Roomy, AreOfPages};
 
     ghost Value = { Roomy };
 
     ghost view = { λ s. record { list = s.items.items; spare = s.spare } };
 
-    ghost invariant = { λ s. vec_len s.items + s.spare ≤ vec_capacity s.items };
+    ghost invariant = { λ s. (vec_len s.items + s.spare ≤ vec_capacity s.items) × AreOfPages s.items.items };
 }
 
 impl Spans {
@@ -42,6 +43,9 @@ impl Spans {
         ensures succeeds { 0 < self.old.spare → IsOk result }
         ensures err { OnErr result (self.new ≡ self.old) }
     {
+        // Read for what the span's type says of them.
+        let _lo = span.lo();
+        let _hi = span.hi();
         self.items.push(span)?;
         self.spare = self.spare.saturating_sub(1);
         Ok(())
@@ -52,6 +56,13 @@ impl Spans {
         ensures { result.now ≡ self.now.list }
     {
         &self.items
+    }
+
+    /// Tells a caller that the spans are of guest pages. It does nothing.
+    pub fn are_of_pages(&self)
+        ensures { AreOfPages self.now.list }
+    {
+        let _ = &self.spare;
     }
 }
 

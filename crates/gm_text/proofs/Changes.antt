@@ -5,8 +5,8 @@ use Rattle.gm_base.specs.declared.calls.Ioctl.{Ioctl}
 use Rattle.gm_base.specs.declared.calls.Ioctl.TheVariants.{Create, Region2, Attrs, Punch, Allocate, Close, Populate, Poke, Peek}
 use Rattle.gm_base.specs.declared.calls.Region.{Region}
 use Rattle.gm_flat.specs.declared.effect.Effect.{Effect}
-use Rattle.gm_flat.specs.declared.effect.Effect.TheVariants.{File, Slot, NoSlot, Move, Attr, Cut, Shut, Word}
-use Rattle.gm_text.specs.InTypes.{IsCallInTypes, IsEffectInTypes}
+use Rattle.gm_flat.specs.declared.effect.Effect.TheVariants.{File, Slot, Mark, NoSlot, Move, Attr, Cut, Shut, Word}
+use Rattle.gm_flat.specs.InTypes.{IsCallInTypes, IsEffectInTypes}
 use Rattle.gm_text.specs.Text.{call_text, effect_text}
 use Rattle.gm_text.proofs.Decimals.{NoDigit}
 use Rattle.gm_text.proofs.Parts.{tag, clash, extent_is}
@@ -109,6 +109,7 @@ call_apart (Peek address) d x y p q hx hy e = other_call (Peek address) d x y re
 abbrev effect_code : Effect → ℕ
 effect_code (File file pages block) = tag (codes "file")
 effect_code (Slot slot base pages user flags file index) = tag (codes "slot")
+effect_code (Mark slot) = tag (codes "mark")
 effect_code (NoSlot slot) = tag (codes "noslot")
 effect_code (Move slot base) = tag (codes "move")
 effect_code (Attr span kind) = tag (codes "attr")
@@ -119,6 +120,7 @@ effect_code (Word page word value) = tag (codes "word")
 effect_tag : (c : Effect) (x : List ℕ) → tag (drop 7 (effect_text c ++ x)) ≡ effect_code c
 effect_tag (File file pages block) x = refl
 effect_tag (Slot slot base pages user flags file index) x = refl
+effect_tag (Mark slot) x = refl
 effect_tag (NoSlot slot) x = refl
 effect_tag (Move slot base) x = refl
 effect_tag (Attr span kind) x = refl
@@ -140,6 +142,11 @@ effect_apart (Slot slot base pages user flags file index) (Slot slot2 base2 page
     let s : (Num slot ∷ Num base ∷ Num pages ∷ Num user ∷ Num flags ∷ Maybe file ∷ Num index ∷ []) ≡ (Num slot2 ∷ Num base2 ∷ Num pages2 ∷ Num user2 ∷ Num flags2 ∷ Maybe file2 ∷ Num index2 ∷ []) = r.0 in
     ((cc), r.1)
 effect_apart (Slot slot base pages user flags file index) d x y p q hx hy e = other_effect (Slot slot base pages user flags file index) d x y refl e
+effect_apart (Mark slot) (Mark slot2) x y p q hx hy e =
+    let r = weave_apart (codes "change mark " ∷ []) (Num slot ∷ []) (Num slot2 ∷ []) x y ((p, q), tt) refl hx hy e in
+    let s : (Num slot ∷ []) ≡ (Num slot2 ∷ []) = r.0 in
+    ((cc), r.1)
+effect_apart (Mark slot) d x y p q hx hy e = other_effect (Mark slot) d x y refl e
 effect_apart (NoSlot slot) (NoSlot slot2) x y p q hx hy e =
     let r = weave_apart (codes "change noslot " ∷ []) (Num slot ∷ []) (Num slot2 ∷ []) x y ((p, q), tt) refl hx hy e in
     let s : (Num slot ∷ []) ≡ (Num slot2 ∷ []) = r.0 in

@@ -18,10 +18,11 @@ use Rattle.gm_flat.specs.declared.effect.Exit.{Exit}
 use Rattle.gm_flat.specs.declared.effect.Exit.TheVariants.{Fault, Mmio, NoFrame}
 use Rattle.gm_flat.specs.declared.effect.Reply.{Reply}
 use Rattle.gm_flat.specs.declared.effect.Reply.TheVariants.{Good, Bad}
-use Rattle.gm_text.specs.InTypes.{IsU64, IsOpInTypes, IsAimInTypes, IsBackingInTypes, IsExitInTypes, IsReplyInTypes, AreSpansInTypes}
+use Rattle.gm_flat.specs.declared.entry.What.TheVariants.{Get}
+use Rattle.gm_flat.specs.InTypes.{IsU64, IsOpInTypes, IsAimInTypes, IsBackingInTypes, IsExitInTypes, IsReplyInTypes, AreSpansInTypes}
+use Rattle.gm_flat.specs.Plain.{IsPlainGet}
 use Rattle.gm_text.specs.Text.{access_text, access_text_by, backing_text, exit_text, get_text, reply_text, span_text, spans_text}
 use Rattle.gm_text.proofs.Decimals.{NoDigit}
-use Rattle.gm_text.proofs.Plain.{frameless, plain_get}
 use Rattle.gm_text.proofs.Weaves.{Num, OfKind, heads, weave_apart}
 
 -- the first three bytes as one number
@@ -74,34 +75,37 @@ folio_by serial frame = record { serial = serial; frame = frame }
 pub folio_is : (f g : Folio) → f.serial ≡ g.serial → f.frame ≡ g.frame → f ≡ g
 folio_is f g s r = ap (λ (n : ℕ). folio_by n f.frame) s ∙ ap (λ (n : ℕ). folio_by g.serial n) r
 
-pub backing_apart : (b c : Backing) (x y : List ℕ) → IsBackingInTypes b → IsBackingInTypes c → NoDigit x → NoDigit y → backing_text b ++ x ≡ backing_text c ++ y → (frameless b ≡ frameless c) × (x ≡ y)
+pub backing_apart : (b c : Backing) (x y : List ℕ) → IsBackingInTypes b → IsBackingInTypes c → NoDigit x → NoDigit y → backing_text b ++ x ≡ backing_text c ++ y → (b ≡ c) × (x ≡ y)
 backing_apart (User m) (User n) x y p q hx hy e =
     let r = weave_apart (codes "user=" ∷ []) (Num m ∷ []) (Num n ∷ []) x y ((p, q), tt) refl hx hy e in
     let s : (Num m ∷ []) ≡ (Num n ∷ []) = r.0 in
     ((cc), r.1)
 backing_apart (InFolio f) (InFolio g) x y p q hx hy e =
-    let r = weave_apart (codes "serial=" ∷ []) (Num f.serial ∷ []) (Num g.serial ∷ []) x y ((p.0, q.0), tt) refl hx hy e in
-    let s : (Num f.serial ∷ []) ≡ (Num g.serial ∷ []) = r.0 in
-    let t : f.serial ≡ g.serial = cc in
-    (ap (λ (n : ℕ). InFolio (folio_by n 0)) t, r.1)
+    let r = weave_apart (codes "serial=" ∷ codes " frame=" ∷ []) (Num f.serial ∷ Num f.frame ∷ []) (Num g.serial ∷ Num g.frame ∷ []) x y ((p.0, q.0), ((p.1, q.1), tt)) refl hx hy e in
+    let s : (Num f.serial ∷ Num f.frame ∷ []) ≡ (Num g.serial ∷ Num g.frame ∷ []) = r.0 in
+    let a : f.serial ≡ g.serial = cc in
+    let b : f.frame ≡ g.frame = cc in
+    (ap (λ (z : Folio). InFolio z) (folio_is f g a b), r.1)
 backing_apart (User m) (InFolio g) x y p q hx hy e = heads 117 115 _ _ refl e
 backing_apart (InFolio f) (User n) x y p q hx hy e = heads 115 117 _ _ refl e
 
-pub get_apart : (b c : Backing) (m n : ℕ) (x y : List ℕ) → IsBackingInTypes b → IsBackingInTypes c → IsU64 m → IsU64 n → NoDigit x → NoDigit y → get_text b m ++ x ≡ get_text c n ++ y → (plain_get b m ≡ plain_get c n) × (x ≡ y)
-get_apart (User a) (User b) m n x y p q h k hx hy e =
+-- a get's line has no `fresh` with a user page, where a plain one has 0
+pub get_apart : (b c : Backing) (m n : ℕ) (x y : List ℕ) → IsPlainGet b m → IsPlainGet c n → IsBackingInTypes b → IsBackingInTypes c → IsU64 m → IsU64 n → NoDigit x → NoDigit y → get_text b m ++ x ≡ get_text c n ++ y → (Get b m ≡ Get c n) × (x ≡ y)
+get_apart (User a) (User b) m n x y u v p q h k hx hy e =
     let r = weave_apart (codes "get user=" ∷ []) (Num a ∷ []) (Num b ∷ []) x y ((p, q), tt) refl hx hy e in
     let s : (Num a ∷ []) ≡ (Num b ∷ []) = r.0 in
-    ((cc), r.1)
-get_apart (InFolio f) (InFolio g) m n x y p q h k hx hy e =
+    let t : a ≡ b = cc in
+    (ap (λ (z : ℕ). Get (User z) m) t ∙ ap (λ (z : ℕ). Get (User b) z) (u ∙ sym v), r.1)
+get_apart (InFolio f) (InFolio g) m n x y u v p q h k hx hy e =
     let r = weave_apart (codes "get serial=" ∷ codes " frame=" ∷ codes " fresh=" ∷ []) (Num f.serial ∷ Num f.frame ∷ Num m ∷ []) (Num g.serial ∷ Num g.frame ∷ Num n ∷ []) x y ((p.0, q.0), ((p.1, q.1), ((h, k), tt))) refl hx hy e in
     let s : (Num f.serial ∷ Num f.frame ∷ Num m ∷ []) ≡ (Num g.serial ∷ Num g.frame ∷ Num n ∷ []) = r.0 in
     let a : f.serial ≡ g.serial = cc in
     let b : f.frame ≡ g.frame = cc in
     let t : f ≡ g = folio_is f g a b in
-    let u : m ≡ n = cc in
-    ((cc), r.1)
-get_apart (User a) (InFolio g) m n x y p q h k hx hy e = heads 117 115 _ _ refl (append_cancel_left (codes "get ") _ _ e)
-get_apart (InFolio f) (User b) m n x y p q h k hx hy e = heads 115 117 _ _ refl (append_cancel_left (codes "get ") _ _ e)
+    let w : m ≡ n = cc in
+    (ap (λ (z : Folio). Get (InFolio z) m) t ∙ ap (λ (z : ℕ). Get (InFolio g) z) w, r.1)
+get_apart (User a) (InFolio g) m n x y u v p q h k hx hy e = heads 117 115 _ _ refl (append_cancel_left (codes "get ") _ _ e)
+get_apart (InFolio f) (User b) m n x y u v p q h k hx hy e = heads 115 117 _ _ refl (append_cancel_left (codes "get ") _ _ e)
 
 -- exits
 pub exit_apart : (v w : Exit) (x y : List ℕ) → IsExitInTypes v → IsExitInTypes w → NoDigit x → NoDigit y → exit_text v ++ x ≡ exit_text w ++ y → (v ≡ w) × (x ≡ y)

@@ -8,7 +8,7 @@ use Rattle.gm_base.specs.declared.values.Kind.{Kind}
 use Rattle.gm_base.specs.declared.values.Kind.TheVariants.{Private, Shared}
 use Rattle.gm_base.specs.declared.values.Level.{Level}
 use Rattle.gm_base.specs.declared.values.Level.TheVariants.{Small, Block}
-use Rattle.gm_text.specs.InTypes.{IsU64, IsMaybeU64}
+use Rattle.gm_flat.specs.InTypes.{IsU64, IsMaybeU64}
 use Rattle.gm_text.specs.Text.{bit_text, kind_text, level_text, maybe_text}
 use Rattle.gm_text.proofs.Decimals.{NoDigit, is_digit, decimal_apart, decimal_first}
 

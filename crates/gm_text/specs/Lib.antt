@@ -1,3 +1,3 @@
-pub mod InTypes
 pub mod Pieces
 pub mod Text
+pub mod TextOne

@@ -1,4 +1,4 @@
--- The text of a history, version 1, as bytes. (This project's own.)
+-- The text of a history, version 2, as bytes. (This project's own.)
 use Rattle.std.specs.Prelude.{ℕ, List, [], ◌∷◌, ◌++◌, Some, None, codes, length, true, false, Bool}
 use Rattle.std.specs.Fmt.{decimal}
 use Rattle.std.specs.declared.option.Option.{Option}
@@ -26,7 +26,7 @@ use Rattle.gm_flat.specs.declared.effect.Exit.TheVariants.{Fault, Mmio, NoFrame}
 use Rattle.gm_flat.specs.declared.effect.Reply.{Reply}
 use Rattle.gm_flat.specs.declared.effect.Reply.TheVariants.{Good, Bad}
 use Rattle.gm_flat.specs.declared.effect.Effect.{Effect}
-use Rattle.gm_flat.specs.declared.effect.Effect.TheVariants.{File, Slot, NoSlot, Move, Attr, Cut, Shut, Word}
+use Rattle.gm_flat.specs.declared.effect.Effect.TheVariants.{File, Slot, Mark, NoSlot, Move, Attr, Cut, Shut, Word}
 
 -- texts one after another
 abbrev pub joined : List (List ℕ) → List ℕ
@@ -70,7 +70,11 @@ access_text a = access_text_by a.op a.kind (address_of a)
 -- of a touch
 abbrev pub backing_text : Backing → List ℕ
 backing_text (User page) = joined (codes "user=" ∷ decimal page ∷ [])
-backing_text (Folio folio) = joined (codes "serial=" ∷ decimal folio.serial ∷ [])
+backing_text (Folio folio) = joined (codes "serial=" ∷ decimal folio.serial ∷ codes " frame=" ∷ decimal folio.frame ∷ [])
+
+-- a touch, by the text of its backing
+abbrev pub touch_text : Aim → List ℕ → Level → ℕ → ℕ → List ℕ
+touch_text access backing level value fill = codes "touch " ++ (access_text access ++ (codes " " ++ (backing ++ joined (codes " level=" ∷ level_text level ∷ codes " value=" ∷ decimal value ∷ codes " fill=" ∷ decimal fill ∷ []))))
 
 -- of a get
 abbrev pub get_text : Backing → ℕ → List ℕ
@@ -100,6 +104,7 @@ call_text (Peek address) = joined (codes "judge peek " ∷ decimal address ∷ [
 abbrev pub effect_text : Effect → List ℕ
 effect_text (File file pages block) = joined (codes "change file " ∷ decimal file ∷ codes " pages=" ∷ decimal pages ∷ codes " block=" ∷ bit_text block ∷ [])
 effect_text (Slot slot base pages user flags file index) = joined (codes "change slot " ∷ decimal slot ∷ codes " base=" ∷ decimal base ∷ codes " pages=" ∷ decimal pages ∷ codes " user=" ∷ decimal user ∷ codes " flags=" ∷ decimal flags ∷ codes " file=" ∷ maybe_text file ∷ codes " index=" ∷ decimal index ∷ [])
+effect_text (Mark slot) = joined (codes "change mark " ∷ decimal slot ∷ [])
 effect_text (NoSlot slot) = joined (codes "change noslot " ∷ decimal slot ∷ [])
 effect_text (Move slot base) = joined (codes "change move " ∷ decimal slot ∷ codes " base=" ∷ decimal base ∷ [])
 effect_text (Attr span kind) = joined (codes "change attr " ∷ decimal span.lo ∷ codes "-" ∷ decimal span.hi ∷ codes " " ∷ kind_text kind ∷ [])
@@ -123,7 +128,7 @@ what_text (Look at slot attr file) = joined (codes "look at=" ∷ decimal at ∷
 what_text (Get backing fresh) = get_text backing fresh
 what_text (Install page level) = joined (codes "install page=" ∷ decimal page ∷ codes " level=" ∷ level_text level ∷ [])
 what_text Retry = codes "retry"
-what_text (Touch access backing level value fill) = codes "touch " ++ (access_text access ++ (codes " " ++ (backing_text backing ++ joined (codes " level=" ∷ level_text level ∷ codes " value=" ∷ decimal value ∷ codes " fill=" ∷ decimal fill ∷ []))))
+what_text (Touch access backing level value fill) = touch_text access (backing_text backing) level value fill
 what_text (Left why) = exit_text why
 what_text (Judge call) = call_text call
 what_text (Begin spans) = codes "begin" ++ spans_text spans.list
@@ -135,9 +140,12 @@ what_text (Answer reply) = reply_text reply
 what_text (Free folio pages) = joined (codes "free serial=" ∷ decimal folio.serial ∷ codes " frame=" ∷ decimal folio.frame ∷ codes " pages=" ∷ decimal pages ∷ [])
 what_text Gone = codes "gone"
 
--- an entry's line
+-- an entry's line, by the text of what it says
+abbrev pub line_text : Entry → List ℕ → List ℕ
+line_text e what = joined (decimal e.turn ∷ codes " " ∷ actor_letter e.actor ∷ decimal (actor_number e.actor) ∷ codes " " ∷ []) ++ (what ++ codes "\n")
+
 abbrev pub entry_text : Entry → List ℕ
-entry_text e = joined (decimal e.turn ∷ codes " " ∷ actor_letter e.actor ∷ decimal (actor_number e.actor) ∷ codes " " ∷ []) ++ (what_text e.what ++ codes "\n")
+entry_text e = line_text e (what_text e.what)
 
 abbrev pub entries_text : List Entry → List ℕ
 entries_text [] = []
@@ -150,6 +158,10 @@ huge_text false = codes "off"
 abbrev pub machine_text : Setup → List ℕ
 machine_text s = joined (codes "machine frames=" ∷ decimal s.frames ∷ codes " user=" ∷ decimal s.user ∷ codes " vcpus=" ∷ decimal s.vcpus ∷ codes " callers=" ∷ decimal s.callers ∷ codes " huge=" ∷ huge_text s.huge ∷ codes "\n" ∷ [])
 
+-- a history's last line, by the counts of turns and of entries
+abbrev pub end_text : ℕ → ℕ → List ℕ
+end_text turns entries = joined (codes "end turns=" ∷ decimal turns ∷ codes " entries=" ∷ decimal entries ∷ codes "\n" ∷ [])
+
 -- the text of a history
 abbrev pub history_text : Setup → List Entry → ℕ → List ℕ
-history_text s h turns = codes "gmem-history 1\n" ++ (machine_text s ++ (entries_text h ++ joined (codes "end turns=" ∷ decimal turns ∷ codes " entries=" ∷ decimal (length h) ∷ codes "\n" ∷ [])))
+history_text s h turns = codes "gmem-history 2\n" ++ (machine_text s ++ (entries_text h ++ end_text turns (length h)))

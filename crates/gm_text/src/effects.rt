@@ -31,6 +31,7 @@ pub fn put_effect<K: Sink>(sink: &mut K, out: &mut Gathered, effect: Effect) -> 
                 Word b" index=", Number index
             )
         }
+        Effect::Mark { slot } => put_text!(sink, out; Word b"change mark ", Number slot as u64),
         Effect::NoSlot { slot } => put_text!(sink, out; Word b"change noslot ", Number slot as u64),
         Effect::Move { slot, base } => {
             put_text!(sink, out; Word b"change move ", Number slot as u64, Word b" base=", Number base)

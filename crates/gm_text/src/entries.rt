@@ -31,7 +31,9 @@ fn put_backing<K: Sink>(sink: &mut K, out: &mut Gathered, backing: Backing) -> R
 {
     match backing {
         Backing::User(page) => put_text!(sink, out; Word b"user=", Number page),
-        Backing::Folio(folio) => put_text!(sink, out; Word b"serial=", Number folio.serial),
+        Backing::Folio(folio) => {
+            put_text!(sink, out; Word b"serial=", Number folio.serial, Word b" frame=", Number folio.frame as u64)
+        }
     }
 }
 

@@ -62,7 +62,7 @@ fn put_history<K: Sink>(
 ) -> Result<(), Failed>
     ensures { Adds (outlet (K.held sink.old) out.old (K.faults sink.old)) (outlet (K.held sink.new) out.new (K.faults sink.new)) (history_text setup entries.now turns) result }
 {
-    put!(out.add(sink, b"gmem-history 1\n"));
+    put!(out.add(sink, b"gmem-history 2\n"));
     put!(put_setup(sink, out, setup));
     put!(put_entries(sink, out, entries));
     put_text!(sink, out; Word b"end turns=", Number turns, Word b" entries=", Number entries.len() as u64, Word b"\n")

@@ -1,4 +1,4 @@
-//! The text of a history, version 1.
+//! The text of a history, version 2.
 #![tactic(auto)]
 
 // Appends pieces, each given as its kind and its value.
@@ -27,7 +27,7 @@ mod pieces;
 mod words;
 
 pub use history::{write_entry, write_history};
-pub use laws::one_text;
+pub use laws::{one_text, right_is_plain};
 pub use pieces::{Piece, put_pieces};
 
 #[cfg(test)]

@@ -98,7 +98,7 @@ const VCPU_LINES: &str = "12 v3 enter
 12 v3 install page=256 level=2m
 12 v3 retry
 12 v3 touch read shared 0 user=1 level=4k value=9 fill=10
-12 v3 touch write private 8200 3 serial=7 level=2m value=3 fill=10
+12 v3 touch write private 8200 3 serial=7 frame=2 level=2m value=3 fill=10
 12 v3 exit reason=39 errno=14 flags=8 gpa=4096 size=4096
 12 v3 exit reason=6 gpa=8
 12 v3 exit errno=12
@@ -164,7 +164,7 @@ fn calls() -> [Ioctl; 9] {
     ]
 }
 
-fn effects() -> Result<[Effect; 9], Fail> {
+fn effects() -> Result<[Effect; 10], Fail> {
     let span = Span::new(3, 5).ok_or("a span")?;
     Ok([
         Effect::File {
@@ -190,6 +190,7 @@ fn effects() -> Result<[Effect; 9], Fail> {
             file: None,
             index: 0,
         },
+        Effect::Mark { slot: 1 },
         Effect::NoSlot { slot: 1 },
         Effect::Move { slot: 1, base: 2 },
         Effect::Attr {
@@ -266,7 +267,7 @@ fn assert_pushed(spans: &mut Spans, span: Span) -> Result<(), Fail> {
     Ok(())
 }
 
-const CALLER_TEXT: &str = "gmem-history 1
+const CALLER_TEXT: &str = "gmem-history 2
 machine frames=512 user=16 vcpus=1 callers=2 huge=on
 1 c0 judge create 8192 1
 1 c0 judge region 1 4 2 3 4 5 6
@@ -280,6 +281,7 @@ machine frames=512 user=16 vcpus=1 callers=2 huge=on
 1 c0 change file 0 pages=3 block=0
 1 c0 change slot 1 base=2 pages=3 user=4 flags=4 file=5 index=6
 1 c0 change slot 1 base=2 pages=3 user=4 flags=2 file=- index=0
+1 c0 change mark 1
 1 c0 change noslot 1
 1 c0 change move 1 base=2
 1 c0 change attr 3-5 private
@@ -297,7 +299,7 @@ machine frames=512 user=16 vcpus=1 callers=2 huge=on
 1 c0 answer errno=14
 1 c0 answer errno=17
 1 c0 answer errno=22
-end turns=30 entries=29
+end turns=30 entries=30
 ";
 
 #[test]

@@ -14,7 +14,7 @@ use Rattle.gm_base.specs.declared.values.Op.TheVariants.{Read, Write}
 use Rattle.gm_flat.specs.declared.effect.Backing.{Backing}
 use Rattle.gm_flat.specs.declared.effect.Backing.TheVariants.{User, Folio as InFolio}
 use Rattle.gm_flat.specs.declared.effect.Effect.{Effect}
-use Rattle.gm_flat.specs.declared.effect.Effect.TheVariants.{File, Slot, NoSlot, Move, Attr, Cut, Shut, Word}
+use Rattle.gm_flat.specs.declared.effect.Effect.TheVariants.{File, Slot, Mark, NoSlot, Move, Attr, Cut, Shut, Word}
 use Rattle.gm_flat.specs.declared.effect.Exit.{Exit}
 use Rattle.gm_flat.specs.declared.effect.Exit.TheVariants.{Fault, Mmio, NoFrame}
 use Rattle.gm_flat.specs.declared.effect.Reply.{Reply}
@@ -76,6 +76,7 @@ AreSpansInTypes (s ∷ spans) = IsSpanInTypes s × AreSpansInTypes spans
 abbrev pub IsEffectInTypes : Effect → Type 0
 IsEffectInTypes (File file pages block) = IsU64 file × IsU64 pages
 IsEffectInTypes (Slot slot base pages user flags file index) = IsU64 slot × IsU64 base × IsU64 pages × IsU64 user × IsU64 flags × IsMaybeU64 file × IsU64 index
+IsEffectInTypes (Mark slot) = IsU64 slot
 IsEffectInTypes (NoSlot slot) = IsU64 slot
 IsEffectInTypes (Move slot base) = IsU64 slot × IsU64 base
 IsEffectInTypes (Attr span kind) = IsSpanInTypes span
@@ -103,9 +104,12 @@ abbrev pub IsActorInTypes : Actor → Type 0
 IsActorInTypes (Vcpu v) = IsU64 v
 IsActorInTypes (Caller c) = IsU64 c
 
+abbrev pub IsEntryInTypes : Entry → Type 0
+IsEntryInTypes e = IsU64 e.turn × IsActorInTypes e.actor × IsWhatInTypes e.what
+
 abbrev pub AreInTypes : List Entry → Type 0
 AreInTypes [] = Unit {0}
-AreInTypes (e ∷ es) = (IsU64 e.turn × IsActorInTypes e.actor × IsWhatInTypes e.what) × AreInTypes es
+AreInTypes (e ∷ es) = IsEntryInTypes e × AreInTypes es
 
 -- an entry without the spare room of its spans
 abbrev pub roomless : What → What
