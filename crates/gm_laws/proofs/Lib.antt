@@ -4,7 +4,7 @@ mod Flats
 mod Ids
 pub mod Good
 mod Routes
-mod Adds
+pub mod Adds
 mod Aside
 pub mod Grow
 mod Keep
@@ -15,7 +15,7 @@ mod Locks
 mod LocksKeep
 mod SafeChange
 pub mod Touches
-mod Lives
+pub mod Lives
 mod Folios
 pub mod Fates
 pub mod RuledIsRight
