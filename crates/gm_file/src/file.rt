@@ -2,7 +2,7 @@
 
 ghost use Rattle.std.specs.Prelude.{◌≡◌, ℕ, ◌+◌, ◌-◌, ◌<◌, ◌≤◌, ◌++◌, [], length, nat_eq, None, Some, IfOk, IfErr, IfSome, IfNone, IsOk, IsSome, OnOk, OnErr, ◌↔◌, if◌then◌else◌};
 ghost use Rattle.gm_base.specs.declared.numbers.TheConstants.{PAGE_LIMIT};
-ghost use Rattle.gm_radix.specs.Entries.{lookup, put, within, without, IsFirstGap};
+ghost use Rattle.gm_radix.specs.Entries.{count_within, lookup, put, within, without, IsFirstGap};
 ghost use Rattle.gm_file.specs.Ranges.{met, parts_of, range_at, slot_of, with_range, without_slot};
 ghost use Rattle.gm_file.specs.Views.{unless_within};
 
@@ -105,7 +105,8 @@ impl File {
         self.cache.get(index)
     }
 
-    /// The least index from `lo` on and below `hi` that isn't cached.
+    /// The least index from `lo` on and below `hi` that isn't cached. However much is cached, it is found along the depth of
+    /// the cache's tree.
     pub fn next_free(&self, lo: u64, hi: u64) -> Option<u64>
         ensures first { IfSome result (IsFirstGap self.now.cached lo) }
         ensures below { IfSome result (λ index. index < hi) }
@@ -117,6 +118,13 @@ impl File {
             lo
         };
         if free < hi { Some(free) } else { None }
+    }
+
+    /// How many indexes from `lo` on and below `hi` are cached. Like `next_free` it costs the depth.
+    pub fn count_in(&self, lo: u64, hi: u64) -> u64
+        ensures { result ≡ count_within lo hi self.now.cached }
+    {
+        self.cache.count_in(lo, hi)
     }
 
     /// Caches the folio at an index of the file that has none. It takes no memory but what is kept.

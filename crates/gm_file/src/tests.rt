@@ -23,6 +23,7 @@ fn a_page_and_two_ranges(rt: HostRuntime) -> Result<(), Fail> {
     assert_eq!(rt; file.cached(2), Some(folio(0, 0)));
     assert_eq!(rt; file.next_free(2, 4), Some(3));
     assert_eq!(rt; file.next_free(2, 3), None);
+    assert_eq!(rt; (file.count_in(0, 4), file.count_in(3, 4)), (1, 0));
     assert_eq!(rt; file.bind(0, 2, 1), Ok(()));
     assert_eq!(rt; file.bind(1, 3, 2), Err(Bound { slot: 1 }));
     let mut out = Folios::new(rt.alloc(), 1).ok().ok_or("memory")?;

@@ -1,8 +1,8 @@
 -- How many entries of a list have their indexes in a range.
-use Rattle.std.proofs.Common.{◌≡◌, ℕ, ◌+◌, ◌-◌, ◌<◌, ◌≤◌, ◌⊎◌, inl, inr, List, [], ◌∷◌, ◌++◌, length, refl, ap, ◌∙◌, arith, Bool, true, false, length-append}
-use Rattle.std.specs.Prelude.{Some, IsSome, nat_eq, nat_lt, nat_le, if◌then◌else◌, ◌&&◌}
+use Rattle.std.proofs.Common.{◌≡◌, ℕ, ◌+◌, ◌-◌, ◌<◌, ◌≤◌, ◌⊎◌, inl, inr, List, [], ◌∷◌, ◌++◌, length, refl, arith, Bool, true, false}
+use Rattle.std.specs.Prelude.{Some, IsSome, nat_eq, if◌then◌else◌}
 use Rattle.std.proofs.lemmas.Bool.Decides.{nat_tests}
-use Rattle.std.proofs.lemmas.Bool.{ne_eqb, eq-eqb}
+use Rattle.std.proofs.lemmas.Bool.{eq-eqb}
 use Rattle.gm_radix.specs.Entries.{lookup, is_within, count_within, gap_from, Rises}
 use Rattle.gm_radix.proofs.Lists.{not_within, length-Rises}
 

@@ -1,4 +1,4 @@
-use Rattle.std.proofs.Common.{Some, inl, inr, arith, sym, ap, ◌∙◌, length-append}
+use Rattle.std.proofs.Common.{Some, inl, inr, arith, sym, ap, ◌∙◌}
 use Rattle.gm_radix.proofs.Held.{at_fork, Holds-order, Holds-rises}
 use Rattle.gm_radix.proofs.Counts.{count_within-append, count_within-apart, count_within-inside, count_within-length}
 use Rattle.gm_radix.proofs.Lists.{length-Rises}
