@@ -1,7 +1,7 @@
 -- Lemmas on what sinks hold.
-use Rattle.std.proofs.Common.{◌≡◌, ℕ, ◌+◌, ◌-◌, ◌≤◌, List, [], ◌++◌, None, Some, length, take, drop, append_assoc, append-nil, sym, ◌∙◌, ap, arith, subst, take-append-drop, Ok, Err, OnOk}
+use Rattle.std.proofs.Common.{◌≡◌, ℕ, ◌+◌, ◌-◌, ◌≤◌, List, [], ◌++◌, None, Some, length, take, drop, append_assoc, append-nil, sym, ◌∙◌, ap, arith, subst, take-append-drop, Ok, Err, MatchResult, IfSome, ◌<◌}
 use Rattle.std.proofs.Math.Seq.{take-add}
-use Rattle.std.proofs.lemmas.List.{drop-drop, take_all}
+use Rattle.std.proofs.lemmas.List.{drop-drop, length-append, length-drop, take_all}
 use Rattle.std.specs.declared.result.Result.{Result}
 use Rattle.std.specs.declared.option.Option.{Option}
 use Rattle.gm_io.specs.Held.{Gains, GainsFront, Wrote, Grows, total}
@@ -33,9 +33,33 @@ Gains_more a b c from at n bytes h p q = subst (λ (x : List ℕ). Gains a c x) 
 pub Gains_kept : (a b c : Option (List ℕ)) (bs : List ℕ) → Gains a b bs → Gains b c [] → Gains a c bs
 Gains_kept a b c bs p q = subst (λ (x : List ℕ). Gains a c x) (append-nil bs) (Gains-trans a b c bs [] p q)
 
--- a front of the bytes
-pub GainsFront_at : (a b : Option (List ℕ)) (n : ℕ) (bytes : List ℕ) → Gains a b (take n bytes) → GainsFront a b bytes
-GainsFront_at a b n bytes p = record { front = take n bytes; rest = drop n bytes; split = sym (take-append-drop n bytes); gains = p }
+-- what holds anyway holds where a sink tells
+told_anyway : (a : Option (List ℕ)) (n : ℕ) → 0 < n → IfSome a (λ _. 0 < n)
+told_anyway None n h = tt
+told_anyway (Some xs) n h = h
+
+-- a rest that isn't empty stays so with more after it
+pub told_longer : (a : Option (List ℕ)) (rest more : List ℕ) → IfSome a (λ _. 0 < length rest) → IfSome a (λ _. 0 < length (rest ++ more))
+told_longer None rest more h = tt
+told_longer (Some xs) rest more h = rw length-append (omega (arith, h))
+
+-- and with more before it
+pub told_later : (a : Option (List ℕ)) (more rest : List ℕ) → IfSome a (λ _. 0 < length rest) → IfSome a (λ _. 0 < length (more ++ rest))
+told_later None more rest h = tt
+told_later (Some xs) more rest h = rw length-append (omega (arith, h))
+
+some_left : (n : ℕ) (bytes : List ℕ) → n < length bytes → 0 < length (drop n bytes)
+some_left n bytes h = rw length-drop (omega (arith, h))
+
+-- a front of the bytes, and not all of them
+pub GainsFront_at : (a b : Option (List ℕ)) (n : ℕ) (bytes : List ℕ) → n < length bytes → Gains a b (take n bytes) → GainsFront a b bytes
+GainsFront_at a b n bytes h p = record {
+  front = take n bytes;
+  rest = drop n bytes;
+  split = sym (take-append-drop n bytes);
+  short = told_anyway b (length (drop n bytes)) (some_left n bytes h);
+  gains = p;
+}
 
 -- a front of the second text, after the first
 pub GainsFront_after : (a b c : Option (List ℕ)) (text more : List ℕ) → Gains a b text → GainsFront b c more → GainsFront a c (text ++ more)
@@ -43,6 +67,7 @@ GainsFront_after a b c text more p q = record {
   front = text ++ q.front;
   rest = q.rest;
   split = let e : more ≡ q.front ++ q.rest = q.split in rw e (sym (append_assoc text q.front q.rest));
+  short = q.short;
   gains = Gains-trans a b c text q.front p q.gains;
 }
 
@@ -52,6 +77,7 @@ GainsFront_longer a b text more q = record {
   front = q.front;
   rest = q.rest ++ more;
   split = let e : text ≡ q.front ++ q.rest = q.split in rw e (append_assoc q.front q.rest more);
+  short = told_longer b q.rest more q.short;
   gains = q.gains;
 }
 
@@ -63,10 +89,13 @@ Wrote_after a b c text more (Err e) p q = GainsFront_after a b c text more p q
 whole : (bytes : List ℕ) (at : ℕ) → at ≡ length bytes → take (at - 0) (drop 0 bytes) ≡ bytes
 whole bytes at h = let le : length bytes ≤ at - 0 = omega arith in take_all (at - 0) bytes le
 
+less : (at n : ℕ) → at < n → at - 0 < n
+less at n h = omega (arith, h)
+
 -- all of the bytes from the start, or a front of them
-pub Wrote_of_rest : {T E : Type 0} (a b : Option (List ℕ)) (bytes : List ℕ) (at : ℕ) (r : Result T E) → Gains a b (take (at - 0) (drop 0 bytes)) → OnOk r (at ≡ length bytes) → Wrote a b bytes r
+pub Wrote_of_rest : {T E : Type 0} (a b : Option (List ℕ)) (bytes : List ℕ) (at : ℕ) (r : Result T E) → Gains a b (take (at - 0) (drop 0 bytes)) → MatchResult r (λ _. at ≡ length bytes) (λ _. at < length bytes) → Wrote a b bytes r
 Wrote_of_rest a b bytes at (Ok v) p all = subst (λ (x : List ℕ). Gains a b x) (whole bytes at all) p
-Wrote_of_rest a b bytes at (Err e) p all = GainsFront_at a b (at - 0) bytes p
+Wrote_of_rest a b bytes at (Err e) p all = GainsFront_at a b (at - 0) bytes (less at (length bytes) all) p
 
 -- what grew twice grew
 pub Grows-trans : (a b c : Option (List ℕ)) → Grows a b → Grows b c → Grows a c

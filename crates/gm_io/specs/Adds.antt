@@ -14,7 +14,8 @@ pub record Outlet : Type 0 where
 abbrev pub outlet : Option (List ℕ) → List ℕ → ℕ → Outlet
 outlet held waiting faults = record { held = held; waiting = waiting; faults = faults }
 
--- the text was appended to what was held and what waited: all of it at `Ok`, and a front of it at `Err`, which has its cause
+-- the text was appended to what was held and what waited: all of it at `Ok`, and a front of it, never the whole, at `Err`,
+-- which has its cause
 pub record Adds {T E : Type 0} (old new : Outlet) (text : List ℕ) (result : Result T E) : Type 0 where
   pub wrote : Wrote (total old.held old.waiting) (total new.held new.waiting) text result
   pub grows : Grows old.held new.held

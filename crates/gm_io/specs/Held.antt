@@ -1,5 +1,5 @@
 -- What a sink holds after bytes were put.
-use Rattle.std.specs.Prelude.{◌≡◌, ℕ, List, [], ◌++◌, take, None, Some, MatchResult}
+use Rattle.std.specs.Prelude.{◌≡◌, ◌<◌, ℕ, List, [], ◌++◌, length, take, None, Some, IfSome, MatchResult}
 use Rattle.std.specs.declared.result.Result.{Result}
 use Rattle.std.specs.declared.option.Option.{Option}
 
@@ -14,14 +14,15 @@ Gains None None bs = Unit {0}
 abbrev pub PutGains : {E : Type 0} → Option (List ℕ) → Option (List ℕ) → Result ℕ E → List ℕ → Type 0
 PutGains old new r bytes = MatchResult r (λ n. Gains old new (take n bytes)) (λ _. Gains old new [])
 
--- some front of the text
+-- some front of the text, and never the whole where what is held is told: a failure leaves a rest that isn't empty
 pub record GainsFront (old new : Option (List ℕ)) (text : List ℕ) : Type 0 where
   pub front : List ℕ
   pub rest : List ℕ
   pub split : text ≡ front ++ rest
+  pub short : IfSome new (λ _. 0 < length rest)
   pub gains : Gains old new front
 
--- the whole text at `Ok`, and a front of it at `Err`
+-- the whole text at `Ok`, and a front of it, never the whole, at `Err`
 abbrev pub Wrote : {T E : Type 0} → Option (List ℕ) → Option (List ℕ) → List ℕ → Result T E → Type 0
 Wrote old new text r = MatchResult r (λ _. Gains old new text) (λ _. GainsFront old new text)
 

@@ -1,6 +1,6 @@
 //! The traits, and what is built on them.
 
-ghost use Rattle.std.specs.Prelude.{◌≡◌, ◌+◌, ◌-◌, ◌<◌, ◌≤◌, ℕ, List, [], length, take, drop, IfOk, OnOk};
+ghost use Rattle.std.specs.Prelude.{◌≡◌, ◌+◌, ◌-◌, ◌<◌, ◌≤◌, ℕ, List, [], length, take, drop, IfOk, OnOk, MatchResult};
 ghost use Rattle.std.specs.declared.option.Option.{Option};
 ghost use Rattle.std.specs.Io.{ReadsAtMost, WritesAtMost};
 ghost use Rattle.std.specs.Io.KnownBytes.{ReadConsumes};
@@ -60,7 +60,7 @@ impl Gate for OpenGate {
     fn pass(&self, _actor: Actor, _point: u8) {}
 }
 
-/// Puts all the bytes, in as many pieces as the sink wants. Where it fails, the sink has a front of them.
+/// Puts all the bytes, in as many pieces as the sink wants. Where it fails, the sink has a front of them, never all.
 pub fn put_all<K: Sink>(sink: &mut K, bytes: &[u8]) -> Result<(), Failed>
     ensures wrote { Wrote (K.held sink.old) (K.held sink.new) bytes.now result }
     ensures cause { HasCause (K.faults sink.old) (K.faults sink.new) result }
@@ -69,13 +69,14 @@ pub fn put_all<K: Sink>(sink: &mut K, bytes: &[u8]) -> Result<(), Failed>
     put_rest(sink, bytes, &mut at)
 }
 
-/// Puts the bytes from `at` on, and moves `at` past those that the sink took: past all of them at Ok.
+/// Puts the bytes from `at` on, and moves `at` past those that the sink took: past all of them at Ok, and not past all
+/// where the sink fails.
 pub fn put_rest<K: Sink>(sink: &mut K, bytes: &[u8], at: &mut usize) -> Result<(), Failed>
     requires { at.old ≤ length bytes.now }
     ensures from { at.old ≤ at.new }
     ensures within { at.new ≤ length bytes.now }
     ensures gains { Gains (K.held sink.old) (K.held sink.new) (take (at.new - at.old) (drop at.old bytes.now)) }
-    ensures all { OnOk result (at.new ≡ length bytes.now) }
+    ensures all { MatchResult result (λ _. at.new ≡ length bytes.now) (λ _. at.new < length bytes.now) }
     ensures cause { HasCause (K.faults sink.old) (K.faults sink.new) result }
 {
     while *at < bytes.len() {

@@ -1,6 +1,6 @@
 //! Text that is gathered, so that a sink gets large pieces.
 
-ghost use Rattle.std.specs.Prelude.{◌≡◌, ◌≤◌, ◌<◌, ◌+◌, ◌-◌, ℕ, List, [], ◌++◌, length, take, drop, IfOk, OnOk, OnErr};
+ghost use Rattle.std.specs.Prelude.{◌≡◌, ◌≤◌, ◌<◌, ◌+◌, ◌-◌, ℕ, List, [], ◌++◌, length, take, drop, IfOk, OnOk, OnErr, MatchResult};
 ghost use Rattle.gm_io.specs.Causes.{HasCause};
 ghost use Rattle.gm_io.specs.Adds.{Adds, outlet};
 ghost use Rattle.gm_io.specs.Held.{Gains, PutGains, Grows, total};
@@ -74,10 +74,10 @@ impl Gathered {
         Ok(count)
     }
 
-    /// Puts all that waits. Where the sink fails, what it hasn't taken still waits.
+    /// Puts all that waits. Where the sink fails, what it hasn't taken still waits, and that is at least one byte.
     pub fn put<K: Sink>(&mut self, sink: &mut K) -> Result<(), Failed>
         ensures same { Gains (total (K.held sink.old) self.old) (total (K.held sink.new) self.new) [] }
-        ensures empty { OnOk result (self.new ≡ []) }
+        ensures empty { MatchResult result (λ _. self.new ≡ []) (λ _. 0 < length self.new) }
         ensures grows { Grows (K.held sink.old) (K.held sink.new) }
         ensures cause { HasCause (K.faults sink.old) (K.faults sink.new) result }
     {
@@ -97,7 +97,7 @@ fn put_waiting<K: Sink>(
     ensures same { Gains (total (K.held sink.old) (drop start.old (take end.old bytes.now))) (total (K.held sink.new) (drop start.new (take end.new bytes.now))) [] }
     ensures ordered { start.new ≤ end.new }
     ensures within { end.new ≤ end.old }
-    ensures anew { OnOk result (end.new ≡ 0) }
+    ensures anew { MatchResult result (λ _. end.new ≡ 0) (λ _. start.new < end.new) }
     ensures grows { Grows (K.held sink.old) (K.held sink.new) }
     ensures cause { HasCause (K.faults sink.old) (K.faults sink.new) result }
 {

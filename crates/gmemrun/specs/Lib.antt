@@ -1,3 +1,4 @@
+pub mod Coming
 pub mod Reading
 pub mod Refusal
 pub mod Running

@@ -1,22 +1,26 @@
--- What is read of a source.
-use Rattle.std.specs.Prelude.{◌≡◌, ℕ, ◌+◌, ◌≤◌, List, length}
+-- What is read of a source in one call: `old` is what was left before it, and `new` what is left after it, where told.
+use Rattle.std.specs.Prelude.{◌≡◌, ℕ, ◌+◌, ◌<◌, ◌≤◌, List, length}
 use Rattle.std.specs.declared.option.Option.{Option}
 use Rattle.std.specs.Io.KnownBytes.{Consumes, IsAtEnd}
-use Rattle.gm_base.specs.declared.numbers.TheConstants.{MOST_SCRIPT_BYTES}
 
--- all was read, to the end
-pub record ReadAll (old new : Option (List ℕ)) (bytes : List ℕ) : Type 0 where
-  pub consumes : Consumes old new bytes
+-- all was taken, to the end, and no more than may be
+pub record ReadAll (most : ℕ) (old new : Option (List ℕ)) (bytes : List ℕ) : Type 0 where
+  pub taken : Consumes old new bytes
   pub end : IsAtEnd new
+  pub within : length bytes ≤ most
 
--- one byte more was taken than a script may have
-pub record TookTooMuch (old new : Option (List ℕ)) : Type 0 where
-  pub bytes : List ℕ
-  pub long : length bytes ≡ MOST_SCRIPT_BYTES + 1
+-- no more was taken than may be, to the end or not
+pub record TookWithin (most : ℕ) (old new : Option (List ℕ)) (bytes : List ℕ) : Type 0 where
   pub taken : Consumes old new bytes
+  pub within : length bytes ≤ most
 
--- no more was taken than a script may have
-pub record TookWithin (old new : Option (List ℕ)) : Type 0 where
-  pub bytes : List ℕ
-  pub short : length bytes ≤ MOST_SCRIPT_BYTES
+-- exactly one byte more was taken than may be
+pub record TookOneTooMany (most : ℕ) (old new : Option (List ℕ)) (bytes : List ℕ) : Type 0 where
   pub taken : Consumes old new bytes
+  pub beyond : length bytes ≡ most + 1
+
+-- at least one byte more was taken than may be
+pub record TookTooMuch (most : ℕ) (old new : Option (List ℕ)) : Type 0 where
+  pub bytes : List ℕ
+  pub taken : Consumes old new bytes
+  pub beyond : most < length bytes

@@ -3,7 +3,7 @@
 ghost use Rattle.std.specs.Prelude.{◌≡◌, ◌+◌, ◌++◌, ◌<◌, ◌≤◌, [], List, ℕ, length, take, IfOk, OnOk, IsErrOf};
 ghost use Rattle.std.specs.Io.KnownBytes.{Consumes, IsAtEnd};
 ghost use Rattle.gm_io.specs.Causes.{Rose};
-ghost use Rattle.gmemrun.specs.Reading.{ReadAll, TookTooMuch, TookWithin};
+ghost use Rattle.gmemrun.specs.Reading.{ReadAll, TookOneTooMany, TookWithin};
 
 use gm_base::{MOST_SCRIPT_BYTES, NoMemory};
 use gm_io::Source;
@@ -20,13 +20,12 @@ pub enum Unread {
 // A source is asked for pieces of this size, so that a script takes few calls.
 const PIECE: usize = 65_536;
 
-/// Reads all, at most 16,777,216 bytes. `TooLong` comes where one byte more was taken.
+/// Reads to the end, at most 16,777,216 bytes. `TooLong` comes where one byte more was taken.
 pub fn read_all<S: Source>(alloc: Global, source: &mut S) -> Result<Vec<u8>, Unread>
-    ensures bytes { IfOk result (λ v. ReadAll (S.left source.old) (S.left source.new) v.items) }
-    ensures short { IfOk result (λ v. length v.items ≤ MOST_SCRIPT_BYTES) }
+    ensures bytes { IfOk result (λ v. ReadAll MOST_SCRIPT_BYTES (S.left source.old) (S.left source.new) v.items) }
     ensures failed { IsErrOf result Unread.Failed → Rose (S.faults source.old) (S.faults source.new) }
-    ensures few { IsErrOf result Unread.Failed → TookWithin (S.left source.old) (S.left source.new) }
-    ensures long { IsErrOf result Unread.TooLong → TookTooMuch (S.left source.old) (S.left source.new) }
+    ensures few { IsErrOf result Unread.Failed → (bytes : List ℕ) × TookWithin MOST_SCRIPT_BYTES (S.left source.old) (S.left source.new) bytes }
+    ensures long { IsErrOf result Unread.TooLong → (bytes : List ℕ) × TookOneTooMany MOST_SCRIPT_BYTES (S.left source.old) (S.left source.new) bytes }
     ensures later { S.faults source.old ≤ S.faults source.new }
 {
     let mut bytes = Vec::new(alloc);

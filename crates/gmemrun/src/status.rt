@@ -14,7 +14,7 @@ pub enum Status {
     Usage,
     /// The source failed. Nothing was written.
     ReadFault,
-    /// The sink failed. It has a front of the text.
+    /// The sink failed. It has a front of the text or the line, and not all of it.
     WriteFault,
     /// Memory ran out. Nothing was written.
     NoMemory,

@@ -4,17 +4,16 @@ ghost use Rattle.std.specs.Prelude.{◌≡◌, ◌+◌, ◌<◌, ◌≤◌, ◌-
 ghost use Rattle.gm_base.specs.Scripts.{IsOf, IsTurnOf};
 ghost use Rattle.gm_base.specs.declared.script.Turn.TheVariants.{Next, Kick};
 ghost use Rattle.gm_io.specs.Causes.{Rose};
-ghost use Rattle.gm_io.specs.Held.{Gains};
-ghost use Rattle.gm_flat.specs.RightHistory.{Right};
 ghost use Rattle.gm_machine.specs.Played.{PlaysTurns, PlaysTurn};
 ghost use Rattle.gm_script.specs.Grammar.{script_of};
 ghost use Rattle.gmemrun.specs.Reading.{TookTooMuch};
-ghost use Rattle.gmemrun.specs.Running.{EndsAs, EndsBy, Ran, WroteFront, IsSilent, Refused};
+ghost use Rattle.gmemrun.specs.Coming.{CameTo, Put, PutAll};
+ghost use Rattle.gmemrun.specs.Running.{EndsAs, EndsBy, StepsDue};
 
 use crate::read::{Unread, read_all};
 use crate::refusal::write_refusal;
 use crate::status::Status;
-use gm_base::{Actor, NoMemory, Turn};
+use gm_base::{Actor, MOST_SCRIPT_BYTES, NoMemory, Turn};
 use gm_io::{Sink, Source};
 use gm_machine::{How, Machine, Outcome};
 use gm_script::{Script, ScriptError, read_script};
@@ -23,16 +22,12 @@ use std::alloc::Global;
 
 /// Reads a script, takes its turns in order and writes the history. It always returns.
 pub fn run_steps<S: Source, K: Sink>(alloc: Global, source: &mut S, sink: &mut K) -> Status
-    ensures ok { result ≡ Status.Ok → IfSome (S.left source.old) (λ bytes. Ran bytes (K.held sink.old) (K.held sink.new)) }
-    ensures bad_script { result ≡ Status.BadScript → IfSome (S.left source.old) (λ bytes. Refused bytes (K.held sink.old) (K.held sink.new)) }
+    ensures came_to { CameTo MOST_SCRIPT_BYTES StepsDue result (S.left source.old) (S.left source.new) (K.held sink.old) (K.held sink.new) }
     ensures read_fault { result ≡ Status.ReadFault → Rose (S.faults source.old) (S.faults source.new) }
     ensures write_fault { result ≡ Status.WriteFault → Rose (K.faults sink.old) (K.faults sink.new) }
-    ensures front { result ≡ Status.WriteFault → IfSome (S.left source.old) (λ bytes. WroteFront bytes (K.held sink.old) (K.held sink.new)) }
-    ensures too_long { result ≡ Status.TooLong → TookTooMuch (S.left source.old) (S.left source.new) }
-    ensures long_only { IfSome (S.left source.old) (λ _. TookTooMuch (S.left source.old) (S.left source.new) → (result ≡ Status.TooLong) ⊎ (result ≡ Status.NoMemory)) }
-    ensures bad_only { IfSome (S.left source.old) (λ bytes. IfSome (K.held sink.new) (λ _. Refused bytes (K.held sink.old) (K.held sink.new) → (result ≡ Status.BadScript) ⊎ (result ≡ Status.WriteFault))) }
+    ensures long_only { IfSome (S.left source.old) (λ _. TookTooMuch MOST_SCRIPT_BYTES (S.left source.old) (S.left source.new) → (result ≡ Status.TooLong) ⊎ (result ≡ Status.NoMemory)) }
+    ensures bad_only { IfSome (S.left source.old) (λ bytes. IfSome (K.held sink.new) (λ _. PutAll StepsDue bytes Status.BadScript (K.held sink.old) (K.held sink.new) → result ≡ Status.BadScript)) }
     ensures usage { result ≡ Status.Usage → ⊥ }
-    ensures nothing { IsSilent result → K.held sink.new ≡ K.held sink.old }
     ensures complete { (Rose (S.faults source.old) (S.faults source.new) → ⊥) → (Rose (K.faults sink.old) (K.faults sink.new) → ⊥) → IfSome (S.left source.old) (λ bytes. EndsBy bytes result) }
 {
     match read_all(alloc, source) {
@@ -44,15 +39,12 @@ pub fn run_steps<S: Source, K: Sink>(alloc: Global, source: &mut S, sink: &mut K
 }
 
 fn run_bytes<K: Sink>(alloc: Global, bytes: &[u8], sink: &mut K) -> Status
-    ensures ok { result ≡ Status.Ok → Ran bytes.now (K.held sink.old) (K.held sink.new) }
-    ensures bad_script { result ≡ Status.BadScript → Refused bytes.now (K.held sink.old) (K.held sink.new) }
+    ensures put { Put StepsDue bytes.now result (K.held sink.old) (K.held sink.new) }
     ensures write_fault { result ≡ Status.WriteFault → Rose (K.faults sink.old) (K.faults sink.new) }
-    ensures front { result ≡ Status.WriteFault → WroteFront bytes.now (K.held sink.old) (K.held sink.new) }
     ensures usage { result ≡ Status.Usage → ⊥ }
     ensures no_read { result ≡ Status.ReadFault → ⊥ }
     ensures not_long { result ≡ Status.TooLong → ⊥ }
-    ensures bad_only { IfSome (K.held sink.new) (λ _. Refused bytes.now (K.held sink.old) (K.held sink.new) → (result ≡ Status.BadScript) ⊎ (result ≡ Status.WriteFault)) }
-    ensures nothing { IsSilent result → K.held sink.new ≡ K.held sink.old }
+    ensures bad_only { IfSome (K.held sink.new) (λ _. PutAll StepsDue bytes.now Status.BadScript (K.held sink.old) (K.held sink.new) → result ≡ Status.BadScript) }
     ensures complete { (Rose (K.faults sink.old) (K.faults sink.new) → ⊥) → EndsAs (script_of bytes.now) result }
 {
     match read_script(alloc, bytes) {

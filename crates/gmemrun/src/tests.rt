@@ -106,6 +106,27 @@ fn faults_and_ends(rt: HostRuntime) -> Result<(), Fail> {
     Ok(())
 }
 
+// A script that is bad in its first line: the calls of the source and of the sink that fail, the bytes that the sink may
+// hold, the status and what the sink holds then. The source is asked twice, and the sink as often as it has to be.
+#[test]
+fn a_bad_line_is_told_after_the_end(rt: HostRuntime) -> Result<(), Fail> {
+    let alloc = rt.alloc();
+    let line = b"bad line=1 cause=machine\n".as_slice();
+    let rows: [(&[u64], u64, &[u64], Status, &[u8]); 4] = [
+        (&[], 25, &[1], Status::BadScript, line),
+        (&[1], 25, &[], Status::ReadFault, b""),
+        (&[], 24, &[], Status::WriteFault, &line[..24]),
+        (&[], 25, &[0], Status::WriteFault, b""),
+    ];
+    for (reads, capacity, writes, status, held) in rows {
+        let mut source = MemorySource::new(alloc, b"fly\n", reads).ok().ok_or("memory")?;
+        let mut sink = MemorySink::new(alloc, capacity, writes).ok().ok_or("memory")?;
+        assert_eq!(rt; run_steps(alloc, &mut source, &mut sink), status);
+        assert_eq!(rt; sink.held(), held);
+    }
+    Ok(())
+}
+
 #[test]
 fn words_over_std_ends(rt: HostRuntime) -> Result<(), Fail> {
     let alloc = rt.alloc();

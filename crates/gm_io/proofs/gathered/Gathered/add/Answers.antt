@@ -16,7 +16,7 @@ loop-at-preserved g c =
 
 pub returns-in-Err : goal.returns-in-Err
 returns-in-Err g c = record {
-  wrote = GainsFront_at _ _ c.loop-at.at c.args.bytes.now (Gains_kept _ _ _ _ c.loop-at.invariant.gains c.in-Err.ensures.bytes);
+  wrote = GainsFront_at _ _ c.loop-at.at c.args.bytes.now c.loop-at-test.true (Gains_kept _ _ _ _ c.loop-at.invariant.gains c.in-Err.ensures.bytes);
   grows = Grows-trans _ _ _ c.loop-at.invariant.grows c.in-Err.ensures.grows;
   cause = record {
     later = omega (arith, c.in-Err.ensures.cause.later);
