@@ -31,9 +31,9 @@ use Rattle.gm_flat.specs.declared.effect.Exit.TheVariants.{Fault as MemoryFault,
 use Rattle.gm_flat.specs.declared.entry.Entry.{Entry}
 use Rattle.gm_flat.specs.declared.entry.What.TheVariants.{Get, Install, Left, Look, Miss, Touch}
 use Rattle.gm_flat.specs.declared.views.SlotView.{SlotView}
+use Rattle.gm_laws.proofs.Adds.{Made, get_made}
 use Rattle.gm_laws.proofs.Kit.{none_is}
 use Rattle.gm_laws.specs.May.{Backs, MayInstall, MayMiss, MayTouch, ServedBy}
-use Rattle.gm_determined.proofs.Made.{Made, get_made}
 
 -- commands
 touch_command : (a b : Aim) (c : Option Command) → c ≡ Some (TouchCommand a) → c ≡ Some (TouchCommand b) → a ≡ b

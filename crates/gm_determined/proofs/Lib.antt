@@ -17,3 +17,4 @@ pub mod Placed
 pub mod AfterFault
 pub mod AfterLook
 pub mod Callers
+pub mod FreesLaw
