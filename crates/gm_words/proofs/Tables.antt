@@ -1,10 +1,12 @@
 -- Tables, and banks that are made of them.
 use Rattle.std.proofs.Common.{◌≡◌, ◌≢◌, ℕ, ◌+◌, ◌*◌, ◌<◌, ◌≤◌, List, [], length, get_or, set, refl, sym, ◌∙◌, ap, arith, ◌⊎◌, inl, inr, get_or-set_same, get_or-set_other, length-set}
+use Rattle.std.specs.Prelude.{None, Some}
+use Rattle.std.specs.declared.option.Option.{Option}
 use Rattle.std.proofs.lemmas.List.{same_lists, get_or_past, get_or_default, get_or-replicate, length-replicate}
 use Rattle.std.proofs.lemmas.List.FromFn.{length-map-range_with_len, get_or-map-range_with_len}
 use Rattle.std.proofs.lemmas.Bool.{cases_eq, cases_lt}
 use Rattle.gm_base.specs.declared.numbers.TheConstants.{PAGE_WORDS}
-use Rattle.gm_words.specs.Banks.{table, alike, zero_page, page_from, bank_from, page_in}
+use Rattle.gm_words.specs.Banks.{table, alike, zero_page, page_at, page_from, place_of, bank_from, page_in}
 
 pub length-table : {A : Type 0} (n : ℕ) (f : ℕ → A) → length (table n f) ≡ n
 unfolding table
@@ -43,82 +45,92 @@ set-table {A} n f g at within same =
     place i d h (inr ne) =
         get_or-set_other (table n g) at i (f at) d ne ∙ (get_or-table n g i d h ∙ sym (same i h ne))
 
--- no word kept, so every page is zero
-pub empty_bank : (pages : ℕ) → bank_from pages [] ≡ alike pages zero_page
-empty_bank pages =
-    sym (is_table (alike pages zero_page) pages (page_from []) (length-alike pages zero_page) (λ i d h. get_or-alike pages zero_page i d h ∙ empty_page i))
-  where
-    empty_page : (page : ℕ) → zero_page ≡ page_from [] page
-    empty_page page =
-        is_table zero_page PAGE_WORDS (λ word. get_or [] (PAGE_WORDS * page + word) 0) (length-alike PAGE_WORDS 0) (λ i d h. get_or-alike PAGE_WORDS 0 i d h)
+-- no page has a place, so every one is zero
+pub empty_bank : (pages : ℕ) (words : List ℕ) → bank_from pages [] words ≡ alike pages zero_page
+empty_bank pages words =
+    sym (is_table (alike pages zero_page) pages (λ page. page_from words (place_of [] page)) (length-alike pages zero_page) (λ i d h. get_or-alike pages zero_page i d h))
 
-pub page_of_bank : (pages : ℕ) (words : List ℕ) (page : ℕ) → page < pages → page_in (bank_from pages words) page ≡ page_from words page
-page_of_bank pages words page h = get_or-table pages (page_from words) page [] h
+pub page_of_bank : (pages : ℕ) (places : List (Option ℕ)) (words : List ℕ) (page : ℕ) → page < pages → page_in (bank_from pages places words) page ≡ page_from words (place_of places page)
+page_of_bank pages places words page h = get_or-table pages (λ page. page_from words (place_of places page)) page [] h
 
-pub word_of_bank : (pages : ℕ) (words : List ℕ) (page word : ℕ) → page < pages → word < PAGE_WORDS → get_or (page_in (bank_from pages words) page) word 0 ≡ get_or words (PAGE_WORDS * page + word) 0
-word_of_bank pages words page word h k =
-    ap (λ (xs : List ℕ). get_or xs word 0) (page_of_bank pages words page h) ∙ get_or-table PAGE_WORDS (λ w. get_or words (PAGE_WORDS * page + w) 0) word 0 k
+pub length_bank : (bank : List (List ℕ)) (pages : ℕ) (places : List (Option ℕ)) (words : List ℕ) → bank_from pages places words ≡ bank → length bank ≡ pages
+length_bank bank pages places words e = ap length (sym e) ∙ length-table pages (λ page. page_from words (place_of places page))
 
--- the words of the other pages stay, so one page is set
-pub page_set : (pages : ℕ) (old new : List ℕ) (page : ℕ) (next : List ℕ) → page < pages → ((p w : ℕ) → p ≢ page → w < PAGE_WORDS → get_or new (PAGE_WORDS * p + w) 0 ≡ get_or old (PAGE_WORDS * p + w) 0) → page_from new page ≡ next → bank_from pages new ≡ set (bank_from pages old) page next
-page_set pages old new page next h others at =
-    set-table pages (page_from new) (page_from old) page h (λ p l ne. same_table PAGE_WORDS (λ w. get_or new (PAGE_WORDS * p + w) 0) (λ w. get_or old (PAGE_WORDS * p + w) 0) (λ w k. others p w ne k))
-    ∙ ap (λ (xs : List ℕ). set (bank_from pages old) page xs) at
-
-pub length_bank : (bank : List (List ℕ)) (pages : ℕ) (words : List ℕ) → bank_from pages words ≡ bank → length bank ≡ pages
-length_bank bank pages words e = ap length (sym e) ∙ length-table pages (page_from words)
+-- a page of a bank, by its place
+pub placed_page : (bank : List (List ℕ)) (pages : ℕ) (places : List (Option ℕ)) (words : List ℕ) (page : ℕ) (place : Option ℕ) → bank_from pages places words ≡ bank → page < length bank → place_of places page ≡ place → page_in bank page ≡ page_from words place
+placed_page bank pages places words page place e h is =
+    ap (λ (b : List (List ℕ)). page_in b page) (sym e)
+    ∙ (page_of_bank pages places words page (omega (arith, length_bank bank pages places words e)) ∙ ap (λ (o : Option ℕ). page_from words o) is)
 
 -- what a bank's word is
-pub read_bank : (bank : List (List ℕ)) (pages : ℕ) (words : List ℕ) (page word at : ℕ) → bank_from pages words ≡ bank → page < length bank → word < PAGE_WORDS → at ≡ page * PAGE_WORDS + word → get_or words at 0 ≡ get_or (page_in bank page) word 0
-read_bank bank pages words page word at e h k is =
-    ap (λ n. get_or words n 0) (is ∙ place)
-    ∙ (sym (word_of_bank pages words page word (omega (arith, length_bank bank pages words e)) k) ∙ ap (λ (b : List (List ℕ)). get_or (page_in b page) word 0) e)
+pub read_bank : (bank : List (List ℕ)) (pages : ℕ) (places : List (Option ℕ)) (words : List ℕ) (page word place at : ℕ) → bank_from pages places words ≡ bank → page < length bank → word < PAGE_WORDS → place_of places page ≡ Some place → at ≡ place * PAGE_WORDS + word → get_or words at 0 ≡ get_or (page_in bank page) word 0
+read_bank bank pages places words page word place at e h k is sum =
+    ap (λ n. get_or words n 0) (sum ∙ turned)
+    ∙ (sym (get_or-table PAGE_WORDS (λ w. get_or words (PAGE_WORDS * place + w) 0) word 0 k) ∙ ap (λ (xs : List ℕ). get_or xs word 0) (sym (placed_page bank pages places words page (Some place) e h is)))
   where
-    place : page * PAGE_WORDS + word ≡ PAGE_WORDS * page + word
-    place = omega arith
+    turned : place * PAGE_WORDS + word ≡ PAGE_WORDS * place + word
+    turned = omega arith
 
--- one page of a bank is set, by what its words become
-pub set_page : (bank : List (List ℕ)) (pages : ℕ) (old new : List ℕ) (page : ℕ) (next : List ℕ) → bank_from pages old ≡ bank → page < length bank → ((p w : ℕ) → p ≢ page → w < PAGE_WORDS → get_or new (PAGE_WORDS * p + w) 0 ≡ get_or old (PAGE_WORDS * p + w) 0) → length next ≡ PAGE_WORDS → ((w d : ℕ) → w < PAGE_WORDS → get_or next w d ≡ get_or new (PAGE_WORDS * page + w) 0) → bank_from pages new ≡ set bank page next
-set_page bank pages old new page next e h others long at =
-    page_set pages old new page next (omega (arith, length_bank bank pages old e)) others (sym (is_table next PAGE_WORDS (λ w. get_or new (PAGE_WORDS * page + w) 0) long at))
-    ∙ ap (λ (b : List (List ℕ)). set b page next) e
+-- and of a page without a place
+pub read_zero : (bank : List (List ℕ)) (pages : ℕ) (places : List (Option ℕ)) (words : List ℕ) (page word : ℕ) → bank_from pages places words ≡ bank → page < length bank → word < PAGE_WORDS → place_of places page ≡ None → 0 ≡ get_or (page_in bank page) word 0
+read_zero bank pages places words page word e h k is =
+    sym (get_or-alike PAGE_WORDS 0 word 0 k) ∙ ap (λ (xs : List ℕ). get_or xs word 0) (sym (placed_page bank pages places words page None e h is))
 
--- a page of a bank has its words
-pub whole_page : (bank : List (List ℕ)) (pages : ℕ) (words : List ℕ) (page : ℕ) → bank_from pages words ≡ bank → page < length bank → length (page_in bank page) ≡ PAGE_WORDS
-whole_page bank pages words page e h =
-    ap (λ (b : List (List ℕ)). length (page_in b page)) (sym e)
-    ∙ (ap (λ (xs : List ℕ). length xs) (page_of_bank pages words page (omega (arith, length_bank bank pages words e))) ∙ length-table PAGE_WORDS (λ w. get_or words (PAGE_WORDS * page + w) 0))
+-- a page has its words
+pub whole_page : (bank : List (List ℕ)) (pages : ℕ) (places : List (Option ℕ)) (words : List ℕ) (page : ℕ) → bank_from pages places words ≡ bank → page < length bank → length (page_in bank page) ≡ PAGE_WORDS
+whole_page bank pages places words page e h =
+    ap (λ (xs : List ℕ). length xs) (placed_page bank pages places words page (place_of places page) e h refl) ∙ whole (place_of places page)
+  where
+    whole : (o : Option ℕ) → length (page_from words o) ≡ PAGE_WORDS
+    whole None = length-alike PAGE_WORDS 0
+    whole (Some place) = length-table PAGE_WORDS (λ w. get_or words (PAGE_WORDS * place + w) 0)
+
+-- a page is the same where its words are
+pub page_same : (old new : List ℕ) (place : ℕ) → ((w : ℕ) → w < PAGE_WORDS → get_or new (PAGE_WORDS * place + w) 0 ≡ get_or old (PAGE_WORDS * place + w) 0) → page_at new place ≡ page_at old place
+page_same old new place same = same_table PAGE_WORDS (λ w. get_or new (PAGE_WORDS * place + w) 0) (λ w. get_or old (PAGE_WORDS * place + w) 0) same
+
+-- one page of a bank is set, by what the words at its place become
+pub set_page : (bank : List (List ℕ)) (pages : ℕ) (places : List (Option ℕ)) (old new : List ℕ) (page place : ℕ) (next : List ℕ) → bank_from pages places old ≡ bank → page < length bank → place_of places page ≡ Some place → ((a b place : ℕ) → place_of places a ≡ Some place → place_of places b ≡ Some place → a ≡ b) → ((p w : ℕ) → p ≢ place → w < PAGE_WORDS → get_or new (PAGE_WORDS * p + w) 0 ≡ get_or old (PAGE_WORDS * p + w) 0) → length next ≡ PAGE_WORDS → ((w d : ℕ) → w < PAGE_WORDS → get_or next w d ≡ get_or new (PAGE_WORDS * place + w) 0) → bank_from pages places new ≡ set bank page next
+set_page bank pages places old new page place next e h is apart others long at =
+    set-table pages (λ p. page_from new (place_of places p)) (λ p. page_from old (place_of places p)) page (omega (arith, length_bank bank pages places old e)) (λ p l ne. other (place_of places p) (λ q found same. ne (apart p page place (found ∙ ap (λ (n : ℕ). Some n) same) is)))
+    ∙ (ap (λ (xs : List ℕ). set (bank_from pages places old) page xs) here ∙ ap (λ (b : List (List ℕ)). set b page next) e)
+  where
+    here : page_from new (place_of places page) ≡ next
+    here =
+        ap (λ (o : Option ℕ). page_from new o) is
+        ∙ sym (is_table next PAGE_WORDS (λ w. get_or new (PAGE_WORDS * place + w) 0) long at)
+
+    other : (o : Option ℕ) → ((q : ℕ) → o ≡ Some q → q ≡ place → ⊥) → page_from new o ≡ page_from old o
+    other None differs = refl
+    other (Some q) differs = page_same old new q (λ w k. others q w (differs q refl) k)
 
 -- a write of one word
-pub write_bank : (bank : List (List ℕ)) (pages : ℕ) (old kept : List ℕ) (page word value at : ℕ) → bank_from pages old ≡ bank → page < length bank → word < PAGE_WORDS → ((n : ℕ) → get_or kept n 0 ≡ get_or old n 0) → at ≡ page * PAGE_WORDS + word → at < length kept → bank_from pages (set kept at value) ≡ set bank page (set (page_in bank page) word value)
-write_bank bank pages old kept page word value at e h k same is within =
-    set_page bank pages old (set kept at value) page (set (page_in bank page) word value) e h others long here
+pub write_bank : (bank : List (List ℕ)) (pages : ℕ) (places : List (Option ℕ)) (words : List ℕ) (page place word value at : ℕ) → bank_from pages places words ≡ bank → page < length bank → word < PAGE_WORDS → place_of places page ≡ Some place → ((a b place : ℕ) → place_of places a ≡ Some place → place_of places b ≡ Some place → a ≡ b) → at ≡ place * PAGE_WORDS + word → at < length words → bank_from pages places (set words at value) ≡ set bank page (set (page_in bank page) word value)
+write_bank bank pages places words page place word value at e h k found apart is within =
+    set_page bank pages places words (set words at value) page place (set (page_in bank page) word value) e h found apart others long here
   where
-    elsewhere : (n : ℕ) → n ≢ at → get_or (set kept at value) n 0 ≡ get_or old n 0
-    elsewhere n ne = get_or-set_other kept at n value 0 ne ∙ same n
-
-    others : (p w : ℕ) → p ≢ page → w < PAGE_WORDS → get_or (set kept at value) (PAGE_WORDS * p + w) 0 ≡ get_or old (PAGE_WORDS * p + w) 0
-    others p w ne l = elsewhere (PAGE_WORDS * p + w) (omega arith)
+    others : (p w : ℕ) → p ≢ place → w < PAGE_WORDS → get_or (set words at value) (PAGE_WORDS * p + w) 0 ≡ get_or words (PAGE_WORDS * p + w) 0
+    others p w ne l = get_or-set_other words at (PAGE_WORDS * p + w) value 0 (omega arith)
 
     page_length : length (page_in bank page) ≡ PAGE_WORDS
-    page_length = whole_page bank pages old page e h
+    page_length = whole_page bank pages places words page e h
 
     long : length (set (page_in bank page) word value) ≡ PAGE_WORDS
     long = length-set (page_in bank page) word value ∙ page_length
 
-    here : (w d : ℕ) → w < PAGE_WORDS → get_or (set (page_in bank page) word value) w d ≡ get_or (set kept at value) (PAGE_WORDS * page + w) 0
+    here : (w d : ℕ) → w < PAGE_WORDS → get_or (set (page_in bank page) word value) w d ≡ get_or (set words at value) (PAGE_WORDS * place + w) 0
     here w d l = at_word w d l (cases_eq w word)
       where
-        at_word : (w d : ℕ) → w < PAGE_WORDS → ((w ≡ word) ⊎ (w ≢ word)) → get_or (set (page_in bank page) word value) w d ≡ get_or (set kept at value) (PAGE_WORDS * page + w) 0
+        at_word : (w d : ℕ) → w < PAGE_WORDS → ((w ≡ word) ⊎ (w ≢ word)) → get_or (set (page_in bank page) word value) w d ≡ get_or (set words at value) (PAGE_WORDS * place + w) 0
         at_word w d l (inl same_word) =
             ap (λ n. get_or (set (page_in bank page) word value) n d) same_word
             ∙ (get_or-set_same (page_in bank page) word value d (omega (arith, page_length))
-            ∙ (sym (get_or-set_same kept at value 0 within) ∙ ap (λ n. get_or (set kept at value) n 0) (omega (arith, is, same_word))))
+            ∙ (sym (get_or-set_same words at value 0 within) ∙ ap (λ n. get_or (set words at value) n 0) (omega (arith, is, same_word))))
         at_word w d l (inr other) =
             get_or-set_other (page_in bank page) word w value d other
             ∙ (get_or_default (page_in bank page) w d 0 (omega (arith, page_length))
-            ∙ (sym (read_bank bank pages old page w (page * PAGE_WORDS + w) e h l refl)
-            ∙ (ap (λ n. get_or old n 0) (omega arith) ∙ sym (elsewhere (PAGE_WORDS * page + w) (omega arith)))))
+            ∙ (sym (read_bank bank pages places words page w place (place * PAGE_WORDS + w) e h l found refl)
+            ∙ (ap (λ n. get_or words n 0) (omega arith) ∙ sym (get_or-set_other words at (PAGE_WORDS * place + w) value 0 (omega arith)))))
 
 -- a bank of zeros has no other word
 pub zero_words : (pages page word : ℕ) → get_or (page_in (alike pages zero_page) page) word 0 ≡ 0
@@ -133,5 +145,6 @@ zero_words pages page word = inside (cases_lt page pages)
     inside (inr h) = ap (λ (xs : List ℕ). get_or xs word 0) (get_or_past (alike pages zero_page) page [] (omega (arith, length-alike pages zero_page)))
 
 -- banks of as many pages have the same length
-pub same_length : (bank : List (List ℕ)) (pages : ℕ) (old new : List ℕ) → bank_from pages old ≡ bank → length (bank_from pages new) ≡ length bank
-same_length bank pages old new e = length-table pages (page_from new) ∙ sym (length_bank bank pages old e)
+pub same_length : (bank : List (List ℕ)) (pages : ℕ) (places then : List (Option ℕ)) (old new : List ℕ) → bank_from pages places old ≡ bank → length (bank_from pages then new) ≡ length bank
+same_length bank pages places then old new e =
+    length-table pages (λ page. page_from new (place_of then page)) ∙ sym (length_bank bank pages places old e)

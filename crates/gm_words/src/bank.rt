@@ -1,7 +1,7 @@
 //! Banks.
 
-ghost use Rattle.std.specs.Prelude.{◌≡◌, ℕ, ◌+◌, ◌*◌, ◌<◌, ◌≤◌, ◌%◌, IfOk, length, slice_set, slice_index, vec_capacity, vec_len};
-ghost use Rattle.gm_words.specs.Banks.{alike, zero_page, page_in, word_in};
+ghost use Rattle.std.specs.Prelude.{◌≡◌, ◌≢◌, ℕ, ◌+◌, ◌*◌, ◌<◌, ◌≤◌, IfOk, None, Some, length, slice_set, slice_index, vec_capacity, vec_len};
+ghost use Rattle.gm_words.specs.Banks.{alike, bank_from, place_of, zero_page, page_in, word_in, IsKept};
 
 use gm_base::{NoMemory, PAGE_WORDS};
 use std::alloc::Global;
@@ -10,22 +10,23 @@ use std::marker::Model;
 /// Pages of 512 words.
 #[derive(Debug, Drop)]
 pub struct Bank {
-    // The words of the first pages, as far as one was written. All later words are zero. A page of this size that
-    // was never written costs no memory.
+    // The words of the pages that were written, in the order of their first writes. All other pages are zero, and cost no
+    // memory but what is reserved.
     words: Vec<u64>,
+    // For each page, as far as one was written, its place among those. The pages after them have none.
+    places: Vec<Option<u32>>,
     pages: u32,
 }
 
 impl Model for Bank {
-    ghost use Rattle.std.specs.Prelude.{ℕ, ◌≡◌, ◌*◌, ◌≤◌, ◌%◌, List, vec_capacity, vec_len};
-    ghost use Rattle.gm_base.specs.declared.numbers.TheConstants.{PAGE_WORDS};
-    ghost use Rattle.gm_words.specs.Banks.{bank_from};
+    ghost use Rattle.std.specs.Prelude.{ℕ, List, vec_capacity};
+    ghost use Rattle.gm_words.specs.Banks.{bank_from, IsKept};
 
     ghost Value = { List (List ℕ) };
 
-    ghost view = { λ b. bank_from b.pages b.words.items };
+    ghost view = { λ b. bank_from b.pages b.places.items b.words.items };
 
-    ghost invariant = { λ b. (PAGE_WORDS * b.pages ≤ vec_capacity b.words) × (vec_len b.words % PAGE_WORDS ≡ 0) };
+    ghost invariant = { λ b. IsKept b.pages b.places.items b.words.items (vec_capacity b.places) (vec_capacity b.words) };
 }
 
 impl Bank {
@@ -36,7 +37,12 @@ impl Bank {
         ensures zero { IfOk result (λ bank. (page : ℕ) (word : ℕ) → word_in bank page word ≡ 0) }
     {
         let words = Vec::with_capacity(alloc, pages as usize * PAGE_WORDS as usize)?;
-        Ok(Bank { words, pages })
+        let places = Vec::with_capacity(alloc, pages as usize)?;
+        Ok(Bank {
+            words,
+            places,
+            pages,
+        })
     }
 
     /// The number of pages. Each has 512 words.
@@ -53,11 +59,9 @@ impl Bank {
         requires word { word < PAGE_WORDS }
         ensures { result ≡ word_in self.now page word }
     {
-        let at = page as usize * PAGE_WORDS as usize + word as usize;
-        if at < self.words.len() {
-            self.words[at]
-        } else {
-            0
+        match find(&self.places, page) {
+            Some(place) => self.words[place as usize * PAGE_WORDS as usize + word as usize],
+            None => 0,
         }
     }
 
@@ -68,9 +72,8 @@ impl Bank {
         ensures page { self.new ≡ slice_set self.old page (slice_set (page_in self.old page) word value) }
         ensures len { length self.new ≡ length self.old }
     {
-        let start = page as usize * PAGE_WORDS as usize;
-        keep(&mut self.words, start);
-        self.words[start + word as usize] = value;
+        let place = keep(&mut self.places, &mut self.words, self.pages, page);
+        self.words[place as usize * PAGE_WORDS as usize + word as usize] = value;
     }
 
     /// Makes every word of a page zero.
@@ -79,8 +82,8 @@ impl Bank {
         ensures page { self.new ≡ slice_set self.old page zero_page }
         ensures len { length self.new ≡ length self.old }
     {
-        let start = page as usize * PAGE_WORDS as usize;
-        if start < self.words.len() {
+        if let Some(place) = find(&self.places, page) {
+            let start = place as usize * PAGE_WORDS as usize;
             let words = self.words.as_mut_slice();
             words[start..start + PAGE_WORDS as usize].fill(0);
         }
@@ -93,12 +96,13 @@ impl Bank {
         ensures page { self.new ≡ slice_set self.old page (page_in source.now from) }
         ensures len { length self.new ≡ length self.old }
     {
-        let start = from as usize * PAGE_WORDS as usize;
-        if start < source.words.len() {
-            let page_words = &source.words[start..start + PAGE_WORDS as usize];
-            self.put(page, page_words);
-        } else {
-            self.clear(page);
+        match find(&source.places, from) {
+            Some(place) => {
+                let start = place as usize * PAGE_WORDS as usize;
+                let page_words = &source.words[start..start + PAGE_WORDS as usize];
+                self.put(page, page_words);
+            }
+            None => self.clear(page),
         }
     }
 
@@ -109,27 +113,64 @@ impl Bank {
         ensures page { self.new ≡ slice_set self.old page page_words.now }
         ensures len { length self.new ≡ length self.old }
     {
-        let start = page as usize * PAGE_WORDS as usize;
-        keep(&mut self.words, start);
+        let place = keep(&mut self.places, &mut self.words, self.pages, page);
+        let start = place as usize * PAGE_WORDS as usize;
         let words = self.words.as_mut_slice();
         words[start..start + PAGE_WORDS as usize].copy_from_slice(page_words);
     }
 }
 
-/// Keeps the words of the pages up to the one that starts at `start`. Those that were not kept are zero.
-fn keep(words: &mut Vec<u64>, start: usize)
-    requires room { start + PAGE_WORDS ≤ vec_capacity words.old }
-    requires start { start % PAGE_WORDS ≡ 0 }
-    requires whole { vec_len words.old % PAGE_WORDS ≡ 0 }
-    ensures same { (n : ℕ) → slice_index words.new.items n ≡ slice_index words.old.items n }
-    ensures kept { start + PAGE_WORDS ≤ vec_len words.new }
-    ensures whole { vec_len words.new % PAGE_WORDS ≡ 0 }
-    ensures capacity { vec_capacity words.old ≤ vec_capacity words.new }
+// The place of a page's words, where it has one.
+fn find(places: &[Option<u32>], page: u32) -> Option<u32>
+    ensures { result ≡ place_of places.now page }
 {
-    if words.len() <= start {
-        match words.resize(start + PAGE_WORDS as usize, 0) {
+    let at = page as usize;
+    if at < places.len() { places[at] } else { None }
+}
+
+// The place of a page's words. A page that has none gets one with the words that it has already, which are zero.
+fn keep(places: &mut Vec<Option<u32>>, words: &mut Vec<u64>, pages: u32, page: u32) -> u32
+    requires page { page < pages }
+    requires kept { IsKept pages places.old.items words.old.items (vec_capacity places.old) (vec_capacity words.old) }
+    ensures kept { IsKept pages places.new.items words.new.items (vec_capacity places.new) (vec_capacity words.new) }
+    ensures same { bank_from pages places.new.items words.new.items ≡ bank_from pages places.old.items words.old.items }
+    ensures place { place_of places.new.items page ≡ Some result }
+{
+    if let Some(place) = find(places, page) {
+        return place;
+    }
+    let place = (words.len() / PAGE_WORDS as usize) as u32;
+    reach(places, page);
+    places[page as usize] = Some(place);
+    add_page(words);
+    place
+}
+
+// Makes the list of places long enough for a page.
+fn reach(places: &mut Vec<Option<u32>>, page: u32)
+    requires { page < vec_capacity places.old }
+    ensures same { (p : ℕ) → place_of places.new.items p ≡ place_of places.old.items p }
+    ensures long { page < length places.new.items }
+    ensures len { (n : ℕ) → length places.old.items ≤ n → page < n → length places.new.items ≤ n }
+    ensures capacity { vec_capacity places.old ≤ vec_capacity places.new }
+{
+    if places.len() <= page as usize {
+        match places.resize(page as usize + 1, None) {
             Ok(()) => {}
             Err(_) => unreachable!(),
         }
+    }
+}
+
+// Adds the words of one page, which are zero.
+fn add_page(words: &mut Vec<u64>)
+    requires { length words.old.items + PAGE_WORDS ≤ vec_capacity words.old }
+    ensures same { (n : ℕ) → slice_index words.new.items n ≡ slice_index words.old.items n }
+    ensures len { length words.new.items ≡ length words.old.items + PAGE_WORDS }
+    ensures capacity { vec_capacity words.old ≤ vec_capacity words.new }
+{
+    match words.resize(words.len() + PAGE_WORDS as usize, 0) {
+        Ok(()) => {}
+        Err(_) => unreachable!(),
     }
 }

@@ -33,5 +33,8 @@ fn the_last_page_of_the_largest_bank(rt: HostRuntime) -> Result<(), Fail> {
     assert_eq!(rt; other.read(0, 1), 0);
     bank.write(last, 511, 7);
     assert_eq!(rt; bank.read(last, 511), 7);
+    assert_eq!(rt; (bank.read(1, 1), bank.read(0, 1)), (u64::MAX, 0));
+    bank.clear(1);
+    assert_eq!(rt; (bank.read(1, 1), bank.read(last, 511)), (0, 7));
     Ok(())
 }
