@@ -27,7 +27,7 @@ fn punch(offset: u64, length: u64) -> Ioctl {
 
 fn region(flags: u32, gpa: u64, size: u64, user: u64, offset: u64) -> Ioctl {
     Ioctl::Region2(Region {
-        slot: 511,
+        slot: 4095,
         flags,
         gpa,
         size,
@@ -60,7 +60,7 @@ fn the_ends_of_the_ranges(rt: HostRuntime) {
     let passing = [
         create(4096, 1),
         create(half - 4096, 0),
-        slot(511),
+        slot(4095),
         region(4, top - 4096, 4096, 12288, top - 4096),
         region(2, 4096, 0, 16384, 1),
         attrs(top - 4096, 4096, 8, 0),
@@ -82,7 +82,7 @@ fn the_ends_of_the_ranges(rt: HostRuntime) {
         create(half, 0),
         create(4097, 0),
         create(4096, 2),
-        slot(512),
+        slot(4096),
         region(6, 0, 4096, 0, 0),
         region(1, 0, 4096, 0, 0),
         region(0, 1, 4096, 0, 0),

@@ -1,7 +1,6 @@
 -- The slot over a page, by the order of the bases.
-use Rattle.std.proofs.Common.{◌≡◌, ◌≢◌, ℕ, zero, suc, ◌+◌, ◌-◌, ◌<◌, ◌≤◌, List, [], ◌∷◌, length, get_or, Bool, true, false, ◌&&◌, ◌||◌, cond, leb, ltb, Option, None, Some, refl, sym, ◌∙◌, ap, arith, ◌⊎◌, inl, inr}
+use Rattle.std.proofs.Common.{◌≡◌, ℕ, zero, suc, ◌+◌, ◌-◌, ◌<◌, ◌≤◌, List, [], ◌∷◌, length, get_or, Bool, true, false, cond, ltb, None, Some, refl, sym, ◌∙◌, ap, arith, ◌⊎◌, inl, inr}
 use Rattle.std.specs.List.{Contains}
-use Rattle.std.specs.List.Sorted.{IsPermutation, IsNonDecreasingBy}
 use Rattle.std.proofs.lemmas.List.{get_or_default}
 use Rattle.std.proofs.lemmas.List.Elements.{Contains-get_or}
 use Rattle.std.proofs.lemmas.List.Sorted.{Contains-permutation, IsPermutation-sym}
@@ -11,7 +10,7 @@ use Rattle.gm_base.specs.Extent.{meets}
 use Rattle.gm_flat.specs.declared.views.SlotView.{SlotView}
 use Rattle.gm_flat.specs.Slots.{slot_over, slot_span, lies_over}
 use Rattle.gm_flat.specs.Calls.{meets_slot}
-use Rattle.gm_slots.specs.Good.{Good, ByBase, LastBefore}
+use Rattle.gm_slots.specs.Good.{Good, ByBase}
 use Rattle.gm_slots.proofs.Goods.{or_left, or_right, and_comm}
 use Rattle.gm_slots.proofs.Lists.{good_pages}
 

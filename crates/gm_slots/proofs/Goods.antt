@@ -1,15 +1,15 @@
 -- Good lists of slots, and what changes keep.
-use Rattle.std.proofs.Common.{◌≡◌, ◌≢◌, ℕ, zero, suc, ◌+◌, ◌-◌, ◌*◌, ◌<◌, ◌≤◌, List, [], ◌∷◌, length, get_or, map, Bool, true, false, not, ◌&&◌, ◌||◌, cond, eqb, eqb-true, leb, ltb, Option, None, Some, IsSome, refl, sym, subst, ◌∙◌, ap, arith, ◌⊎◌, inl, inr}
-use Rattle.std.specs.List.{IsDistinct, list_any, AllByRecursion, Contains, All}
+use Rattle.std.proofs.Common.{◌≡◌, ℕ, ◌+◌, ◌<◌, ◌≤◌, List, [], ◌∷◌, length, map, Bool, true, false, ◌&&◌, ◌||◌, cond, eqb, eqb-true, ltb, None, Some, refl, sym, subst, ◌∙◌, ap, arith}
+use Rattle.std.specs.List.{IsDistinct, list_any, AllByRecursion}
 use Rattle.std.proofs.lemmas.Map.Steps.{length-le_from_distinct_below}
 use Rattle.std.proofs.lemmas.List.{length-map}
 use Rattle.std.proofs.lemmas.Bool.Decides.{nat_tests}
 use Rattle.gm_base.specs.Extent.{meets}
 use Rattle.gm_base.specs.declared.numbers.TheConstants.{SLOT_IDS}
 use Rattle.gm_flat.specs.declared.views.SlotView.{SlotView}
-use Rattle.gm_flat.specs.Slots.{slot_by_id, slot_over, slot_span, lies_over}
+use Rattle.gm_flat.specs.Slots.{slot_by_id, slot_span}
 use Rattle.gm_flat.specs.Calls.{meets_slot}
-use Rattle.gm_flat.specs.Effects.{dropped, moved, shut_slot, shut_slots}
+use Rattle.gm_flat.specs.Effects.{dropped, marked, moved, shut_slot, shut_slots}
 use Rattle.gm_slots.specs.Good.{Good}
 
 pub or_left : (a b : Bool) → (a || b) ≡ false → a ≡ false
@@ -67,6 +67,35 @@ good_dropped (s ∷ slots) id g =
     choose true e f = e
     choose false e f = f
 
+-- a slot that is marked
+absent_marked : (slots : List SlotView) (id other : ℕ) → slot_by_id slots other ≡ None → slot_by_id (marked id slots) other ≡ None
+absent_marked [] id other none = refl
+absent_marked (s ∷ slots) id other none =
+    let past : (eqb s.id other ≡ false) × (slot_by_id slots other ≡ None) = absent_here s slots other none in
+    choose (eqb s.id id) (absent_cons (record s { invalid = true }) slots other past.0 past.1) (absent_cons s (marked id slots) other past.0 (absent_marked slots id other past.1))
+  where
+    choose : (b : Bool) → slot_by_id (record s { invalid = true } ∷ slots) other ≡ None → slot_by_id (s ∷ marked id slots) other ≡ None → slot_by_id (cond b (record s { invalid = true } ∷ slots) (s ∷ marked id slots)) other ≡ None
+    choose true e f = e
+    choose false e f = f
+
+apart_marked : (slots : List SlotView) (id base pages : ℕ) → meets_slot base pages (marked id slots) ≡ meets_slot base pages slots
+apart_marked [] id base pages = refl
+apart_marked (s ∷ slots) id base pages =
+    choose (eqb s.id id) (ap (λ (r : Bool). meets (record { lo = base; hi = base + pages }) (slot_span s) || r) (apart_marked slots id base pages))
+  where
+    choose : (b : Bool) → meets_slot base pages (s ∷ marked id slots) ≡ meets_slot base pages (s ∷ slots) → meets_slot base pages (cond b (record s { invalid = true } ∷ slots) (s ∷ marked id slots)) ≡ meets_slot base pages (s ∷ slots)
+    choose true f = refl
+    choose false f = f
+
+pub good_marked : (slots : List SlotView) (id : ℕ) → Good slots → Good (marked id slots)
+good_marked [] id g = tt
+good_marked (s ∷ slots) id g =
+    choose (eqb s.id id) (g.0, g.1, g.2, g.3, g.4) (absent_marked slots id s.id g.0, g.1, g.2, apart_marked slots id s.base s.pages ∙ g.3, good_marked slots id g.4)
+  where
+    choose : (b : Bool) → Good (record s { invalid = true } ∷ slots) → Good (s ∷ marked id slots) → Good (cond b (record s { invalid = true } ∷ slots) (s ∷ marked id slots))
+    choose true e f = e
+    choose false e f = f
+
 -- the slots of a file that is shut
 absent_shut : (slots : List SlotView) (file id : ℕ) → slot_by_id slots id ≡ None → slot_by_id (shut_slots file slots) id ≡ None
 absent_shut [] file id none = refl
@@ -87,9 +116,9 @@ absent_moved : (slots : List SlotView) (id base other : ℕ) → slot_by_id slot
 absent_moved [] id base other none = refl
 absent_moved (s ∷ slots) id base other none =
     let past : (eqb s.id other ≡ false) × (slot_by_id slots other ≡ None) = absent_here s slots other none in
-    choose (eqb s.id id) (absent_cons (record s { base = base }) slots other past.0 past.1) (absent_cons s (moved id base slots) other past.0 (absent_moved slots id base other past.1))
+    choose (eqb s.id id) (absent_cons (record s { base = base; invalid = false }) slots other past.0 past.1) (absent_cons s (moved id base slots) other past.0 (absent_moved slots id base other past.1))
   where
-    choose : (b : Bool) → slot_by_id (record s { base = base } ∷ slots) other ≡ None → slot_by_id (s ∷ moved id base slots) other ≡ None → slot_by_id (cond b (record s { base = base } ∷ slots) (s ∷ moved id base slots)) other ≡ None
+    choose : (b : Bool) → slot_by_id (record s { base = base; invalid = false } ∷ slots) other ≡ None → slot_by_id (s ∷ moved id base slots) other ≡ None → slot_by_id (cond b (record s { base = base; invalid = false } ∷ slots) (s ∷ moved id base slots)) other ≡ None
     choose true e f = e
     choose false e f = f
 
@@ -106,8 +135,8 @@ by_id_is s slots id b e = ap (λ (c : Bool). cond c (Some s) (slot_by_id slots i
 dropped_is : (s : SlotView) (slots : List SlotView) (id : ℕ) (b : Bool) → eqb s.id id ≡ b → dropped id (s ∷ slots) ≡ cond b slots (s ∷ dropped id slots)
 dropped_is s slots id b e = ap (λ (c : Bool). cond c slots (s ∷ dropped id slots)) e
 
-moved_is : (s : SlotView) (slots : List SlotView) (id base : ℕ) (b : Bool) → eqb s.id id ≡ b → moved id base (s ∷ slots) ≡ cond b (record s { base = base } ∷ slots) (s ∷ moved id base slots)
-moved_is s slots id base b e = ap (λ (c : Bool). cond c (record s { base = base } ∷ slots) (s ∷ moved id base slots)) e
+moved_is : (s : SlotView) (slots : List SlotView) (id base : ℕ) (b : Bool) → eqb s.id id ≡ b → moved id base (s ∷ slots) ≡ cond b (record s { base = base; invalid = false } ∷ slots) (s ∷ moved id base slots)
+moved_is s slots id base b e = ap (λ (c : Bool). cond c (record s { base = base; invalid = false } ∷ slots) (s ∷ moved id base slots)) e
 
 same_slot : (s t : SlotView) → Some s ≡ Some t → s ≡ t
 same_slot s t e = cc

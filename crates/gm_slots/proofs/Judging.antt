@@ -1,13 +1,11 @@
 -- What a judgement says of the slots.
-use Rattle.std.proofs.Common.{◌≡◌, ◌≢◌, ℕ, ◌+◌, ◌/◌, ◌%◌, ◌<◌, List, [], ◌∷◌, Bool, true, false, not, ◌&&◌, ◌||◌, cond, eqb, eqb-true, Option, None, Some, Ok, Err, refl, sym, ◌∙◌, ap, arith}
+use Rattle.std.proofs.Common.{◌≡◌, ℕ, ◌/◌, ◌%◌, ◌<◌, List, [], ◌∷◌, Bool, true, false, not, ◌||◌, cond, eqb, eqb-true, Option, None, Some, Ok, Err, refl, sym, ◌∙◌, ap, arith}
 use Rattle.gm_base.specs.declared.calls.Region.{Region}
-use Rattle.gm_base.specs.declared.values.Errno.{Errno}
 use Rattle.gm_base.specs.declared.values.Errno.TheVariants.{Exist, Inval}
 use Rattle.gm_flat.specs.declared.views.SlotView.{SlotView}
 use Rattle.gm_flat.specs.Slots.{slot_by_id}
 use Rattle.gm_flat.specs.Effects.{dropped}
 use Rattle.gm_flat.specs.Calls.{meets_slot, page_of, has_memfd, wants_file, differs, same_truth, is_readonly}
-use Rattle.gm_slots.specs.declared.change.Change.{Change}
 use Rattle.gm_slots.specs.declared.change.Change.TheVariants.{Nothing, Make, Delete, Move}
 use Rattle.std.proofs.lemmas.Bool.Decides.{nat_tests}
 use Rattle.gm_slots.specs.Good.{Good}

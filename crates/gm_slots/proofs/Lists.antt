@@ -1,14 +1,13 @@
 -- Lists of slots, step by step.
-use Rattle.std.proofs.Common.{◌≡◌, ◌≢◌, ℕ, zero, suc, ◌+◌, ◌<◌, ◌≤◌, List, [], ◌∷◌, ◌++◌, length, get_or, set, take, drop, Bool, true, false, not, ◌&&◌, ◌||◌, cond, eqb, eqb-true, Option, None, Some, refl, sym, ◌∙◌, ap, arith, ◌⊎◌, inl, inr}
+use Rattle.std.proofs.Common.{◌≡◌, ◌≢◌, ℕ, zero, suc, ◌+◌, ◌<◌, List, [], ◌∷◌, ◌++◌, length, get_or, set, take, drop, Bool, true, false, not, ◌&&◌, ◌||◌, cond, eqb, eqb-true, None, Some, refl, sym, ◌∙◌, ap, arith}
 use Rattle.std.specs.List.{remove}
 use Rattle.std.proofs.lemmas.List.{drop_more, take_more, append_assoc, set_split, same_lists}
 use Rattle.std.proofs.lemmas.Bool.Decides.{nat_tests}
-use Rattle.std.proofs.lemmas.Bool.{cases_Bool}
 use Rattle.gm_base.specs.Extent.{meets}
 use Rattle.gm_flat.specs.declared.views.SlotView.{SlotView}
 use Rattle.gm_flat.specs.Slots.{slot_by_id, slot_span}
 use Rattle.gm_flat.specs.Calls.{meets_slot}
-use Rattle.gm_flat.specs.Effects.{dropped, moved, shut_slot, shut_slots}
+use Rattle.gm_flat.specs.Effects.{dropped, marked, moved, shut_slot, shut_slots}
 use Rattle.gm_slots.specs.Good.{Good}
 
 differ : (a b : ℕ) → a ≢ b → eqb a b ≡ false
@@ -33,20 +32,22 @@ pub by_id_found : (slots : List SlotView) (at id : ℕ) (s : SlotView) → at < 
 by_id_found slots at id s h e here =
     ap (λ (l : List SlotView). slot_by_id l id) (drop_more slots at s h ∙ ap (λ (x : SlotView). x ∷ drop (at + 1) slots) (sym e)) ∙ by_id_here s (drop (at + 1) slots) id here
 
--- what is kept before the first slot of an id, when a slot is dropped or moved
+-- what is kept before the first slot of an id, when a slot is dropped, marked or moved
 pub record Passed (slots : List SlotView) (at id : ℕ) : Type 0 where
   pub found : slot_by_id slots id ≡ slot_by_id (drop at slots) id
   pub drops : dropped id slots ≡ take at slots ++ dropped id (drop at slots)
   pub moves : (base : ℕ) → moved id base slots ≡ take at slots ++ moved id base (drop at slots)
+  pub marks : marked id slots ≡ take at slots ++ marked id (drop at slots)
 
 pub passed_none : (slots : List SlotView) (id : ℕ) → Passed slots 0 id
-passed_none slots id = record { found = refl; drops = refl; moves = λ base. refl }
+passed_none slots id = record { found = refl; drops = refl; moves = λ base. refl; marks = refl }
 
 pub passed_more : (slots : List SlotView) (at id : ℕ) (s : SlotView) → Passed slots at id → at < length slots → s ≡ get_or slots at s → s.id ≢ id → Passed slots (at + 1) id
 passed_more slots at id s p h e ne = record {
   found = p.found ∙ by_id_more slots at id s h e ne;
   drops = p.drops ∙ along (λ l. dropped id l) (ap (λ (b : Bool). cond b (drop (at + 1) slots) (s ∷ dropped id (drop (at + 1) slots))) (differ s.id id ne));
-  moves = λ base. p.moves base ∙ along (λ l. moved id base l) (ap (λ (b : Bool). cond b (record s { base = base } ∷ drop (at + 1) slots) (s ∷ moved id base (drop (at + 1) slots))) (differ s.id id ne));
+  moves = λ base. p.moves base ∙ along (λ l. moved id base l) (ap (λ (b : Bool). cond b (record s { base = base; invalid = false } ∷ drop (at + 1) slots) (s ∷ moved id base (drop (at + 1) slots))) (differ s.id id ne));
+  marks = p.marks ∙ along (λ l. marked id l) (ap (λ (b : Bool). cond b (record s { invalid = true } ∷ drop (at + 1) slots) (s ∷ marked id (drop (at + 1) slots))) (differ s.id id ne));
 }
   where
     here : drop at slots ≡ s ∷ drop (at + 1) slots
@@ -70,12 +71,19 @@ drop_found slots at id s p h e here =
     ∙ sym (p.drops ∙ (ap (λ (l : List SlotView). take at slots ++ dropped id l) (drop_more slots at s h ∙ ap (λ (x : SlotView). x ∷ drop (at + 1) slots) (sym e))
     ∙ ap (λ (b : Bool). take at slots ++ cond b (drop (at + 1) slots) (s ∷ dropped id (drop (at + 1) slots))) (same s.id id here)))
 
-pub move_found : (slots : List SlotView) (at id base : ℕ) (s : SlotView) → Passed slots at id → at < length slots → s ≡ get_or slots at s → s.id ≡ id → set slots at (record s { base = base }) ≡ moved id base slots
+pub move_found : (slots : List SlotView) (at id base : ℕ) (s : SlotView) → Passed slots at id → at < length slots → s ≡ get_or slots at s → s.id ≡ id → set slots at (record s { base = base; invalid = false }) ≡ moved id base slots
 move_found slots at id base s p h e here =
-    set_split slots at (record s { base = base }) h
-    ∙ (ap (λ (n : ℕ). take at slots ++ record s { base = base } ∷ drop n slots) (suc_is at)
+    set_split slots at (record s { base = base; invalid = false }) h
+    ∙ (ap (λ (n : ℕ). take at slots ++ record s { base = base; invalid = false } ∷ drop n slots) (suc_is at)
     ∙ sym (p.moves base ∙ (ap (λ (l : List SlotView). take at slots ++ moved id base l) (drop_more slots at s h ∙ ap (λ (x : SlotView). x ∷ drop (at + 1) slots) (sym e))
-    ∙ ap (λ (b : Bool). take at slots ++ cond b (record s { base = base } ∷ drop (at + 1) slots) (s ∷ moved id base (drop (at + 1) slots))) (same s.id id here))))
+    ∙ ap (λ (b : Bool). take at slots ++ cond b (record s { base = base; invalid = false } ∷ drop (at + 1) slots) (s ∷ moved id base (drop (at + 1) slots))) (same s.id id here))))
+
+pub mark_found : (slots : List SlotView) (at id : ℕ) (s : SlotView) → Passed slots at id → at < length slots → s ≡ get_or slots at s → s.id ≡ id → set slots at (record s { invalid = true }) ≡ marked id slots
+mark_found slots at id s p h e here =
+    set_split slots at (record s { invalid = true }) h
+    ∙ (ap (λ (n : ℕ). take at slots ++ record s { invalid = true } ∷ drop n slots) (suc_is at)
+    ∙ sym (p.marks ∙ (ap (λ (l : List SlotView). take at slots ++ marked id l) (drop_more slots at s h ∙ ap (λ (x : SlotView). x ∷ drop (at + 1) slots) (sym e))
+    ∙ ap (λ (b : Bool). take at slots ++ cond b (record s { invalid = true } ∷ drop (at + 1) slots) (s ∷ marked id (drop (at + 1) slots))) (same s.id id here))))
 
 -- slots with another id that meet
 abbrev pub others_meet : ℕ → ℕ → ℕ → List SlotView → Bool

@@ -1,5 +1,5 @@
 -- What a call on a slot does to the slots.
-use Rattle.std.specs.Prelude.{◌≡◌, ℕ, ◌+◌, ◌<◌, ◌%◌, List, [], ◌∷◌, Bool, true, false, not, ◌&&◌, ◌||◌, nat_eq, nat_lt, None, Some, Ok, Err, if◌then◌else◌}
+use Rattle.std.specs.Prelude.{◌≡◌, ℕ, ◌<◌, List, ◌∷◌, Bool, true, false, ◌||◌, nat_eq, None, Some, Ok, Err, if◌then◌else◌}
 use Rattle.std.specs.declared.option.Option.{Option}
 use Rattle.std.specs.declared.result.Result.{Result}
 use Rattle.gm_base.specs.declared.calls.Region.{Region}
@@ -8,7 +8,8 @@ use Rattle.gm_base.specs.declared.values.Errno.{Errno}
 use Rattle.gm_base.specs.declared.values.Errno.TheVariants.{Exist, Inval}
 use Rattle.gm_flat.specs.declared.views.SlotView.{SlotView}
 use Rattle.gm_flat.specs.Slots.{slot_by_id}
-use Rattle.gm_flat.specs.Effects.{U64_LIMIT, dropped, moved}
+use Rattle.gm_flat.specs.Effects.{dropped, moved}
+use Rattle.gm_flat.specs.RightLook.{is_marked}
 use Rattle.gm_flat.specs.Calls.{is_paged, page_of, wants_file, has_memfd, differs, meets_slot}
 use Rattle.gm_slots.specs.declared.change.Change.{Change}
 use Rattle.gm_slots.specs.declared.change.Change.TheVariants.{Nothing, Make, Delete, Move}
@@ -59,7 +60,15 @@ made_slot r = record {
   flags = r.flags;
   file = if wants_file r then Some r.fd else None;
   index = if wants_file r then page_of r.offset else 0;
+  invalid = false;
 }
+
+-- whether the slot, where it is to go or to move, was marked before
+abbrev pub is_ready : Change → Option SlotView → Bool
+is_ready Nothing slot = true
+is_ready Make slot = true
+is_ready Delete slot = is_marked slot
+is_ready Move slot = is_marked slot
 
 -- the slots after a change
 abbrev pub slots_after : Change → Region → List SlotView → List SlotView

@@ -6,7 +6,7 @@ ghost use Rattle.gm_base.specs.Extent.{meets};
 ghost use Rattle.gm_flat.specs.declared.views.SlotView.{SlotView};
 ghost use Rattle.gm_flat.specs.Slots.{slot_by_id};
 ghost use Rattle.gm_flat.specs.Calls.{meets_slot};
-ghost use Rattle.gm_flat.specs.Effects.{dropped, moved, shut_slot, shut_slots};
+ghost use Rattle.gm_flat.specs.Effects.{dropped, marked, moved, shut_slot, shut_slots};
 ghost use Rattle.gm_slots.specs.Good.{Good};
 
 use gm_flat::SlotView;
@@ -54,7 +54,8 @@ fn ranges_meet(base: u64, pages: u64, other_base: u64, other_pages: u64) -> bool
 fn place_of(slots: &[SlotView], id: u32) -> Option<usize>
     ensures bound { IfSome result (λ at. at < length slots.now) }
     ensures drops { IfSome result (λ at. remove slots.now at ≡ dropped id slots.now) }
-    ensures moves { IfSome result (λ at. (base : ℕ) (slot : SlotView) → slot ≡ slice_index_or slots.now at slot → slice_set slots.now at (record slot { base = base }) ≡ moved id base slots.now) }
+    ensures moves { IfSome result (λ at. (base : ℕ) (slot : SlotView) → slot ≡ slice_index_or slots.now at slot → slice_set slots.now at (record slot { base = base; invalid = false }) ≡ moved id base slots.now) }
+    ensures marks { IfSome result (λ at. (slot : SlotView) → slot ≡ slice_index_or slots.now at slot → slice_set slots.now at (record slot { invalid = true }) ≡ marked id slots.now) }
     ensures none { IfNone result (slot_by_id slots.now id ≡ None) }
 {
     for (at, slot) in slots.iter().enumerate() {
@@ -79,15 +80,38 @@ pub(crate) fn drop_id(slots: &mut Vec<SlotView>, id: u32)
     }
 }
 
-/// Moves the slot with an id to another base.
+/// Marks the slot with an id.
+pub(crate) fn mark_id(slots: &mut Vec<SlotView>, id: u32)
+    requires { IsSome (slot_by_id slots.old.items id) }
+    ensures slots { slots.new.items ≡ marked id slots.old.items }
+    ensures capacity { vec_capacity slots.new ≡ vec_capacity slots.old }
+{
+    match place_of(slots, id) {
+        Some(at) => slots[at].invalid = true,
+        None => unreachable!(),
+    }
+}
+
+/// Moves the slot with an id to another base, where it isn't marked.
 pub(crate) fn move_id(slots: &mut Vec<SlotView>, id: u32, base: u64)
     requires { IsSome (slot_by_id slots.old.items id) }
     ensures slots { slots.new.items ≡ moved id base slots.old.items }
     ensures capacity { vec_capacity slots.new ≡ vec_capacity slots.old }
 {
     match place_of(slots, id) {
-        Some(at) => slots[at].base = base,
+        Some(at) => slots[at] = at_base(slots[at], base),
         None => unreachable!(),
+    }
+}
+
+/// The slot at another base, not marked.
+fn at_base(slot: SlotView, base: u64) -> SlotView
+    ensures { result ≡ record slot { base = base; invalid = false } }
+{
+    SlotView {
+        base,
+        invalid: false,
+        ..slot
     }
 }
 

@@ -1,16 +1,17 @@
 //! The slots.
 
-ghost use Rattle.std.specs.Prelude.{◌≡◌, ℕ, ◌+◌, ◌<◌, ◌≤◌, ◌∷◌, [], Ok, None, IfOk, IsSome, length, vec_capacity};
+ghost use Rattle.std.specs.Prelude.{◌≡◌, ℕ, ◌+◌, ◌<◌, ◌≤◌, ◌∷◌, [], Ok, None, IfOk, IsSome, true, false, length, vec_capacity};
 ghost use Rattle.gm_base.specs.declared.numbers.TheConstants.{SLOT_IDS};
 ghost use Rattle.gm_flat.specs.Slots.{slot_by_id, slot_over};
+ghost use Rattle.gm_flat.specs.RightLook.{is_marked};
 ghost use Rattle.gm_flat.specs.FlatState.{has_flag};
 ghost use Rattle.gm_flat.specs.Calls.{page_of, differs, meets_slot, same_truth};
-ghost use Rattle.gm_flat.specs.Effects.{dropped, shut_slots};
-ghost use Rattle.gm_slots.specs.Changes.{SlotList, Passed, change_of, new_change, old_change, made_slot, slots_after, rise_by};
+ghost use Rattle.gm_flat.specs.Effects.{dropped, marked, shut_slots};
+ghost use Rattle.gm_slots.specs.Changes.{SlotList, Passed, change_of, new_change, old_change, made_slot, slots_after, rise_by, is_ready};
 ghost use Rattle.gm_slots.specs.Good.{Good, ByBase};
 
 use crate::change::Change;
-use crate::list::{drop_id, find_id, meets_other, move_id, shut_file};
+use crate::list::{drop_id, find_id, mark_id, meets_other, move_id, shut_file};
 use crate::order::{find_page, renew};
 use gm_base::{
     COUNTER_LIMIT, Errno, KVM_MEM_GUEST_MEMFD, KVM_MEM_READONLY, NoMemory, PAGE_BYTES, Page,
@@ -118,11 +119,25 @@ impl Slots {
         )
     }
 
-    /// Makes the change that `judge` answers for a call. It takes no memory. The generation rises by one, but for
-    /// `Nothing`.
+    /// Marks a slot, since it is to go or to move. It takes no memory. The generation rises by one.
+    pub fn mark(&mut self, slot: u32)
+        requires exists { IsSome (slot_by_id self.old.slots slot) }
+        requires unmarked { is_marked (slot_by_id self.old.slots slot) ≡ false }
+        requires generation { self.old.generation < COUNTER_LIMIT }
+        ensures slots { self.new.slots ≡ marked slot self.old.slots }
+        ensures generation { self.new.generation ≡ self.old.generation + 1 }
+    {
+        mark_id(&mut self.list, slot);
+        renew(&mut self.order, &self.list);
+        self.changes += 1;
+    }
+
+    /// Makes the change that `judge` answers for a call. A slot that goes or moves was marked; moved, it isn't. It takes no
+    /// memory. The generation rises by one, but for `Nothing`.
     pub fn apply(&mut self, region: &Region, change: Change)
         requires passed { Passed region.now }
         requires judged { change_of region.now self.old.slots ≡ Ok change }
+        requires ready { is_ready change (slot_by_id self.old.slots region.now.slot) ≡ true }
         requires generation { self.old.generation < COUNTER_LIMIT }
         ensures slots { self.new.slots ≡ slots_after change region.now self.old.slots }
         ensures generation { self.new.generation ≡ self.old.generation + rise_by change }
@@ -141,14 +156,14 @@ impl Slots {
         renew(&mut self.order, &self.list);
     }
 
-    /// The slot over a page. None exactly where no slot lies over it.
+    /// The slot over a page, with its mark. None exactly where no slot lies over it.
     pub fn find(&self, page: Page) -> Option<SlotView>
         ensures { result ≡ slot_over self.now.slots page }
     {
         find_page(&self.order, page.number())
     }
 
-    /// The slot with an id. None exactly where it doesn't exist.
+    /// The slot with an id, with its mark. None exactly where it doesn't exist.
     pub fn by_id(&self, id: u32) -> Option<SlotView>
         ensures { result ≡ slot_by_id self.now.slots id }
     {
@@ -223,6 +238,7 @@ fn slot_of(region: &Region) -> SlotView
         flags: region.flags,
         file: None,
         index: 0,
+        invalid: false,
     };
     if is_file_backed(region.flags) {
         SlotView {

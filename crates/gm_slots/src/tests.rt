@@ -43,7 +43,7 @@ fn a_slot_that_meets_another(rt: HostRuntime) -> Result<(), Fail> {
 fn the_last_page_and_the_last_id(rt: HostRuntime) -> Result<(), Fail> {
     let mut slots = Slots::new(rt.alloc()).ok().ok_or("memory")?;
     let last = Region {
-        slot: 511,
+        slot: 4095,
         flags: 4,
         gpa: 18_446_744_073_709_543_424,
         size: 4096,
@@ -59,7 +59,37 @@ fn the_last_page_and_the_last_id(rt: HostRuntime) -> Result<(), Fail> {
     assert_eq!(rt; slot.index, 2);
     assert_eq!(rt; slots.find(Page::new(0).ok_or("a page")?), None);
     slots.shut(7);
-    let slot = slots.by_id(511).ok_or("a slot")?;
+    let slot = slots.by_id(4095).ok_or("a slot")?;
     assert_eq!(rt; slot.file, None);
+    assert_eq!(rt; slots.by_id(4096), None);
+    Ok(())
+}
+
+#[test]
+fn a_marked_slot_moves(rt: HostRuntime) -> Result<(), Fail> {
+    let mut slots = Slots::new(rt.alloc()).ok().ok_or("memory")?;
+    let first = Region {
+        slot: 5,
+        flags: 0,
+        gpa: 0,
+        size: 4096,
+        user: 0,
+        fd: 0,
+        offset: 0,
+    };
+    slots.apply(&first, Change::Make);
+    slots.mark(5);
+    let zero = Page::new(0).ok_or("a page")?;
+    let marked = slots.find(zero).ok_or("a slot")?;
+    assert!(rt; marked.invalid && slots.by_id(5) == Some(marked));
+    assert_eq!(rt; slots.generation(), 2);
+    let second = Region { gpa: 8192, ..first };
+    let change = slots.judge(&second).ok().ok_or("a change")?;
+    assert_eq!(rt; change, Change::Move);
+    slots.apply(&second, change);
+    assert_eq!(rt; slots.find(zero), None);
+    let moved = slots.by_id(5).ok_or("a slot")?;
+    assert!(rt; moved.base == 2 && !moved.invalid);
+    assert_eq!(rt; slots.generation(), 3);
     Ok(())
 }

@@ -1,4 +1,4 @@
-use Rattle.std.proofs.Common.{◌≡◌, ℕ, ◌-◌, ◌<◌, ◌≤◌, get_or, length, ap, ◌∙◌, true, false, None, arith}
+use Rattle.std.proofs.Common.{◌-◌, get_or, ap, ◌∙◌, false, None, arith}
 use Rattle.std.proofs.lemmas.List.{get_or_default}
 use Rattle.gm_flat.specs.declared.views.SlotView.{SlotView}
 use Rattle.gm_flat.specs.Slots.{lies_over}
@@ -7,7 +7,7 @@ use Rattle.gm_slots.proofs.order.find_page.Goals as goal
 
 -- what the code reads past the end, where it never reads
 abbrev blank : SlotView
-blank = record { id = 0; base = 0; pages = 0; user = 0; flags = 0; file = None; index = 0 }
+blank = record { id = 0; base = 0; pages = 0; user = 0; flags = 0; file = None; index = 0; invalid = false }
 
 pub returns-then-count-eq0-clause-none : goal.returns-then-count-eq0-clause-none
 returns-then-count-eq0-clause-none c = (

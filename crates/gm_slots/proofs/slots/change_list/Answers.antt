@@ -1,11 +1,10 @@
-use Rattle.std.proofs.Common.{◌≡◌, ◌<◌, ◌≤◌, List, [], ◌∷◌, ℕ, Ok, length, false, sym, subst, ap, ◌∙◌, arith}
+use Rattle.std.proofs.Common.{List, ℕ, Ok, sym, subst, ap, ◌∙◌, arith}
 use Rattle.gm_flat.specs.declared.views.SlotView.{SlotView}
 use Rattle.gm_flat.specs.Calls.{meets_slot, page_of}
 use Rattle.gm_flat.specs.Effects.{dropped}
 use Rattle.gm_slots.specs.Good.{Good}
-use Rattle.gm_slots.specs.Changes.{change_of, made_slot}
+use Rattle.gm_slots.specs.Changes.{made_slot}
 use Rattle.gm_slots.specs.declared.change.Change.{Change}
-use Rattle.gm_slots.specs.declared.change.Change.TheVariants.{Move, Make}
 use Rattle.gm_slots.proofs.Goods.{good_dropped, good_moved, good_room}
 use Rattle.gm_slots.proofs.Judging.{judged_move, good_made}
 use Rattle.gm_slots.proofs.slots.change_list.Goals as goal

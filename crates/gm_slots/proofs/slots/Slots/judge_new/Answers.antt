@@ -1,7 +1,5 @@
-use Rattle.std.proofs.Common.{◌≡◌, ◌≢◌, ℕ, eqb, false, true, cond, Bool, List, Ok, Err, ap, sym, ◌∙◌, arith, rules}
+use Rattle.std.proofs.Common.{◌≡◌, ◌≢◌, ℕ, eqb, false, true, sym, arith}
 use Rattle.std.proofs.lemmas.Bool.Decides.{nat_tests}
-use Rattle.gm_flat.specs.declared.views.SlotView.{SlotView}
-use Rattle.gm_slots.specs.Changes.{SlotList}
 use Rattle.gm_slots.proofs.Judging.{new_is}
 use Rattle.gm_slots.proofs.slots.Slots.judge_new.Goals as goal
 

@@ -1,4 +1,4 @@
-use Rattle.std.proofs.Common.{List, sym, subst, ap, length, arith}
+use Rattle.std.proofs.Common.{List, sym, subst, arith}
 use Rattle.gm_flat.specs.declared.views.SlotView.{SlotView}
 use Rattle.gm_slots.specs.Good.{Good, ByBase}
 use Rattle.gm_slots.proofs.Goods.{good_length, good_shut}
