@@ -6,13 +6,14 @@ use Rattle.gm_base.specs.Values.{same_kind, permits}
 use Rattle.gm_base.specs.declared.values.Kind.{Kind}
 use Rattle.gm_base.specs.declared.values.Kind.TheVariants.{Private, Shared}
 use Rattle.gm_base.specs.declared.numbers.TheConstants.{KVM_MEM_READONLY, KVM_MEM_GUEST_MEMFD, KVM_MEMORY_EXIT_FLAG_PRIVATE, PAGE_BYTES, PAGE_LIMIT}
+use Rattle.gm_flat.specs.RightLook.{is_marked}
 use Rattle.gm_flat.specs.Slots.{lies_over, user_page_of, index_of}
 use Rattle.gm_flat.specs.declared.effect.Exit as exit
 use Rattle.gm_flat.specs.declared.effect.Exit.TheVariants as exits
 use Rattle.gm_flat.specs.declared.views.Looked.{Looked}
 use Rattle.gm_flat.specs.declared.views.SlotView.{SlotView}
 use Rattle.gm_fault.specs.declared.routes.Route.{Route}
-use Rattle.gm_fault.specs.declared.routes.Route.TheVariants.{Exit, User, File}
+use Rattle.gm_fault.specs.declared.routes.Route.TheVariants.{Exit, User, File, Again}
 
 -- the slot lies over the page, and its guest pages, user pages and indexes are below 2^52
 pub record IsSlotOver (page : ℕ) (s : SlotView) : Type 0 where
@@ -57,6 +58,10 @@ abbrev pub route_of_kind : Kind → Option SlotView → Aim → Route
 route_of_kind Private slot a = route_of_private slot a
 route_of_kind Shared slot a = route_of_shared slot a
 
--- every access: the memory fault where its kind isn't the attribute, and else by its kind
+-- every access: again where the slot is marked; the memory fault where its kind isn't the attribute; and else by its
+-- kind
 abbrev pub route_of : Looked → Aim → Route
-route_of looked a = if same_kind looked.attr a.kind then route_of_kind a.kind looked.slot a else Exit (memory_fault a)
+route_of looked a =
+    if is_marked looked.slot then Again
+    else if same_kind looked.attr a.kind then route_of_kind a.kind looked.slot a
+    else Exit (memory_fault a)

@@ -1,6 +1,7 @@
 //! Where a fault goes on.
 
 ghost use Rattle.std.specs.Prelude.{◌≡◌, IfSome, not, nat_eq, bit_and};
+ghost use Rattle.gm_flat.specs.RightLook.{is_marked};
 ghost use Rattle.gm_fault.specs.Routes.{IsSlotOver, has_flag, memory_fault, route_of, route_of_private, route_of_shared};
 
 use gm_base::{
@@ -10,26 +11,40 @@ use gm_base::{
 use gm_flat::{Exit, Looked, SlotView};
 
 /// Where an access goes after its look: it leaves the guest, it is backed by a user page, or by the page of a file at an
-/// index. User pages and indexes are pages.
+/// index, or it is tried again. User pages and indexes are pages.
 #[derive(Clone, Copy, Debug, PartialEq, Eq)]
 pub enum Route {
     Exit(Exit),
     User(u64),
     File(u32, u64),
+    Again,
 }
 
-/// The route of an access by the slot over its page and the page's attribute. A kind that isn't the attribute exits by
-/// a memory fault. A private access goes to the slot's file, and exits by a memory fault where there is none in use. A
-/// shared one goes to the slot's user page, and exits by MMIO where there is no slot, and for a write where the slot is
-/// read-only.
+/// The route of an access by the slot over its page and the page's attribute. Under a slot that is marked it is tried
+/// again, whatever its kind. A kind that isn't the attribute exits by a memory fault. A private access goes to the slot's
+/// file, and exits by a memory fault where there is none in use. A shared one goes to the slot's user page, and exits by
+/// MMIO where there is no slot, and for a write where the slot is read-only.
 pub fn decide(looked: &Looked, access: &Access) -> Route
     requires { IfSome looked.now.slot (IsSlotOver access.now.page) }
     ensures { result ≡ route_of looked.now access.now }
 {
+    if is_marked(looked.slot) {
+        return Route::Again;
+    }
     match (looked.attr, access.kind()) {
         (Kind::Private, Kind::Private) => private_route(looked.slot, *access),
         (Kind::Shared, Kind::Shared) => shared_route(looked.slot, *access),
         _ => Route::Exit(memory_fault(*access)),
+    }
+}
+
+// Whether there is a slot and it is marked.
+fn is_marked(slot: Option<SlotView>) -> bool
+    ensures { result ≡ is_marked slot }
+{
+    match slot {
+        Some(slot) => slot.invalid,
+        None => false,
     }
 }
 

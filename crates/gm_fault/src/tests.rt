@@ -14,22 +14,29 @@ fn types_cross_threads() {
 #[test]
 fn the_ends_of_the_ranges(rt: HostRuntime) -> Result<(), Fail> {
     let slot = SlotView {
-        id: 511,
+        id: 4095,
         base: PAGE_LIMIT - 512,
         pages: 512,
         user: 0,
         flags: 6,
         file: Some(3),
         index: 7,
+        invalid: false,
+    };
+    let marked = SlotView {
+        invalid: true,
+        ..slot
     };
     let last = Page::new(PAGE_LIMIT - 1).ok_or("a page")?;
     let mmio = Exit::Mmio {
         gpa: 18_446_744_073_709_551_608,
     };
-    for (attr, op, kind, route) in [
-        (Kind::Private, Op::Read, Kind::Private, Route::File(3, 518)),
-        (Kind::Shared, Op::Read, Kind::Shared, Route::User(511)),
-        (Kind::Shared, Op::Write(1), Kind::Shared, Route::Exit(mmio)),
+    for (slot, attr, op, kind, route) in [
+        (slot, Kind::Private, Op::Read, Kind::Private, Route::File(3, 518)),
+        (slot, Kind::Shared, Op::Read, Kind::Shared, Route::User(511)),
+        (slot, Kind::Shared, Op::Write(1), Kind::Shared, Route::Exit(mmio)),
+        (marked, Kind::Shared, Op::Read, Kind::Shared, Route::Again),
+        (marked, Kind::Private, Op::Read, Kind::Shared, Route::Again),
     ] {
         let looked = Looked {
             at: 0,

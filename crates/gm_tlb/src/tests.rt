@@ -26,9 +26,9 @@ fn types_cross_threads() {
 }
 
 #[test]
-fn the_oldest_of_sixty_five_goes(rt: HostRuntime) -> Result<(), Fail> {
+fn the_oldest_of_257_goes(rt: HostRuntime) -> Result<(), Fail> {
     let mut tlb = Tlb::new(rt.alloc()).ok().ok_or("memory")?;
-    for first in 0..65 {
+    for first in 0..257 {
         let leaf = small(first);
         tlb.fill(Fill { leaf, at: first });
     }

@@ -16,7 +16,7 @@ pub struct Fill {
     pub at: u64,
 }
 
-/// The last 64 fills since a flush.
+/// The last 256 fills since a flush.
 #[derive(Drop)]
 pub struct Tlb {
     fills: HeapCircularBuffer<Fill>,
@@ -50,7 +50,7 @@ impl Tlb {
         latest_hit(&self.fills, *access)
     }
 
-    /// Adds a fill. The oldest goes where 64 are held.
+    /// Adds a fill. The oldest goes where 256 are held.
     pub fn fill(&mut self, fill: Fill)
         ensures { self.new ≡ take BUFFER_FILLS (fill ∷ self.old) }
     {
