@@ -160,7 +160,7 @@ impl Mmu {
         }
     }
 
-    /// Adds a fill of the vCPU. Its oldest goes where 64 are held.
+    /// Adds a fill of the vCPU. Its oldest goes where 256 are held.
     pub fn fill(&mut self, v: u32, fill: Fill)
         requires { v < length self.old.fills }
         ensures { self.new ≡ record self.old { fills = slice_set self.old.fills v (take BUFFER_FILLS (fill ∷ fills_of self.old v)) } }
