@@ -15,7 +15,7 @@ use Rattle.gm_flat.specs.declared.entry.Entry.{Entry}
 use Rattle.gm_flat.specs.declared.entry.What.{What}
 use Rattle.gm_flat.specs.declared.entry.What.TheVariants.{Begin, Get, Install, Page, Touch}
 use Rattle.gm_laws.proofs.Kit.{by}
-use Rattle.gm_determined.specs.Determined.{roomless, roomless_entries}
+use Rattle.gm_flat.specs.InTypes.{roomless, roomless_entries}
 
 pub record Alike (p q : List Entry) : Type 0 where
   pub r_length : length p ≡ length q

@@ -23,7 +23,8 @@ use Rattle.gm_flat.specs.declared.entry.What.TheVariants.{Acked, Answer, Begin, 
 use Rattle.gm_laws.proofs.RightIsRuled.{ruled}
 use Rattle.gm_laws.specs.May.{May}
 use Rattle.gm_laws.specs.Ruled.{AllFreed, Follows, FollowsRules, IsUsed, Ruled, loosened, loosens}
-use Rattle.gm_determined.specs.Determined.{LookedAt, PlaysAnyAt, SampledAt, Stamp, roomless, roomless_entries, roomless_turn, stamps}
+use Rattle.gm_flat.specs.InTypes.{roomless, roomless_entries}
+use Rattle.gm_determined.specs.Determined.{LookedAt, PlaysAnyAt, SampledAt, Stamp, roomless_turn, stamps}
 use Rattle.gm_determined.proofs.Alike.{Alike, alike, alike_sym}
 use Rattle.gm_determined.proofs.Bare.{AllHere, Played, bare_same, here_stamps}
 use Rattle.gm_determined.proofs.MayAlike.{KeepsPlace, blocked_alike, may_alike, used_alike}

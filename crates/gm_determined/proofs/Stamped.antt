@@ -21,7 +21,8 @@ use Rattle.gm_laws.proofs.RuledIsRight.{right}
 use Rattle.gm_laws.proofs.TurnsKeep.{new_turn, quiet_freed}
 use Rattle.gm_laws.specs.Ruled.{AllFreed, Ruled, loosened, loosens}
 use Rattle.gm_laws.specs.Turns.{EachMay, IsNewTurn, IsTurn, onto}
-use Rattle.gm_determined.specs.Determined.{look_at, roomless_entries, roomless_turn, stamps}
+use Rattle.gm_flat.specs.InTypes.{roomless_entries}
+use Rattle.gm_determined.specs.Determined.{look_at, roomless_turn, stamps}
 use Rattle.gm_determined.proofs.History.{freed_bare, kick_bare, may_bare, row_bare, ruled_bare, stamps_bare, twice}
 use Rattle.gm_determined.proofs.Turn.{turn_stamped}
 use Rattle.gm_flat.specs.Plays.{is_kick}

@@ -15,7 +15,8 @@ ghost use Rattle.gm_flat.specs.declared.entry.What.TheVariants.{Sample};
 ghost use Rattle.gm_laws.specs.Ruled.{Ruled};
 ghost use Rattle.gm_laws.specs.Stands.{Stands};
 ghost use Rattle.gm_laws.specs.Turns.{IsNewTurn, IsTurn, onto};
-ghost use Rattle.gm_determined.specs.Determined.{AreHere, IsItsTurns, PlaysAnyAt, frees_in, look_at, roomless_entries, roomless_turn, stamps};
+ghost use Rattle.gm_flat.specs.InTypes.{roomless_entries};
+ghost use Rattle.gm_determined.specs.Determined.{AreHere, IsItsTurns, PlaysAnyAt, frees_in, look_at, roomless_turn, stamps};
 
 /// A whole turn is determined by the past, its actor and that it is a kick or isn't, where each of its samples and
 /// looks has its own position, and a look is a turn of its own; but for the spare room of spans.

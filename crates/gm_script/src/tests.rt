@@ -280,7 +280,7 @@ fn machine_lines(rt: HostRuntime) -> Result<(), Fail> {
             Some((1, Cause::Limit)),
         ),
         (
-            b"machine frames=4 user=4 vcpus=17 callers=1 huge=off\n".as_slice(),
+            b"machine frames=4 user=4 vcpus=65 callers=1 huge=off\n".as_slice(),
             Some((1, Cause::Limit)),
         ),
         (
@@ -292,7 +292,11 @@ fn machine_lines(rt: HostRuntime) -> Result<(), Fail> {
             Some((1, Cause::Unbuilt)),
         ),
         (
-            b"# head\n machine  frames=0x10000 user=65536 vcpus=16 callers=16 huge=off \n".as_slice(),
+            b"# head\n machine  frames=0x10000 user=65536 vcpus=64 callers=16 huge=off \n".as_slice(),
+            None,
+        ),
+        (
+            b"machine frames=4 user=4 vcpus=64 callers=1 huge=off\n".as_slice(),
             None,
         ),
         (

@@ -16,7 +16,7 @@ const A_WRITE_WITHOUT_TURNS: &[u8] =
 const A_PRIVATE_WRITE: &[u8] =
     b"machine frames=4 user=4 vcpus=1 callers=1 huge=off\nv0 write private 0 1\n";
 
-const HEAD: &[u8] = b"gmem-history 1\nmachine frames=4 user=4 vcpus=1 callers=1 huge=off\n";
+const HEAD: &[u8] = b"gmem-history 2\nmachine frames=4 user=4 vcpus=1 callers=1 huge=off\n";
 
 const FIRST_READ: &[u8] =
     b"1 c0 judge region 0 0 0 16384 0 0 0\n1 c0 change slot 0 base=0 pages=4 user=0 flags=0 file=- index=0\n1 c0 answer ok=0\n2 v0 enter\n3 v0 miss read shared 0\n4 v0 sample at=5\n5 v0 look at=6 slot=0 attr=shared file=-\n6 v0 get user=0\n7 v0 install page=0 level=4k\n8 v0 enter\n9 v0 touch read shared 0 user=0 level=4k value=0 fill=10\n";
