@@ -1,5 +1,5 @@
 -- What comes of a fault after its Look, and after a Get.
-use Rattle.std.proofs.Common.{◌++◌, ◌+◌, Bool, List, None, Option, Some, [], ap, eq-eqb, eqb, false, inl, inr, refl, subst, sym, true, ℕ, ◌∙◌, ◌∷◌, ◌≡◌, ◌⊎◌}
+use Rattle.std.proofs.Common.{◌++◌, Bool, List, None, Option, Some, [], ap, eq-eqb, eqb, false, inl, inr, refl, subst, sym, true, ℕ, ◌∙◌, ◌∷◌, ◌≡◌, ◌⊎◌}
 use Rattle.std.proofs.lemmas.Bool.{both_ways, cond-true}
 use Rattle.gm_base.specs.Aim.{Aim}
 use Rattle.gm_base.specs.Scripts.{Orders}
@@ -86,8 +86,8 @@ freed_fault : (o : Orders) (v : ℕ) (fo : Folio) (n : ℕ) (e : Entry) (past h 
 freed_fault o v fo n e past h x a w =
     let front = x.place.before in
     let row : is_vcpu_row (front ++ Free fo n ∷ x.place.after) ≡ true = subst (λ (y : What). is_vcpu_row (front ++ y ∷ x.place.after) ≡ true) w
-        (subst (λ (b : Actor). is_row o.setup b (front ++ e.what ∷ x.place.after) (before_number e.turn h) ≡ true) a
-        (subst (λ (ws : List What). is_row o.setup e.actor ws (before_number e.turn h) ≡ true) x.place.entries x.turn.row)) in
+    (subst (λ (b : Actor). is_row o.setup b (front ++ e.what ∷ x.place.after) (before_number e.turn h) ≡ true) a
+    (subst (λ (ws : List What). is_row o.setup e.actor ws (before_number e.turn h) ≡ true) x.place.entries x.turn.row)) in
     let r = after_retry fo n front x.place.after row in
     let stands : past ≡ onto e.turn (Vcpu v) (Retry ∷ r.0) (before_number e.turn h) = x.place.stands ∙ (ap (λ (b : Actor). onto e.turn b front (before_number e.turn h)) a ∙ ap (λ (ws : List What). onto e.turn (Vcpu v) ws (before_number e.turn h)) r.1) in
     ap (fault v) stands ∙ no_fault e.turn v r.0 (before_number e.turn h) r.2

@@ -21,11 +21,10 @@ use Rattle.gm_flat.specs.declared.effect.Exit.{Exit}
 use Rattle.gm_flat.specs.declared.effect.Exit.TheVariants.{Fault as MemoryFault, Mmio, NoFrame}
 use Rattle.gm_flat.specs.declared.entry.Entry.{Entry}
 use Rattle.gm_flat.specs.declared.entry.What.{What}
-use Rattle.gm_flat.specs.declared.entry.What.TheVariants.{Flush, Get, Install, Left, Look, Retry}
+use Rattle.gm_flat.specs.declared.entry.What.TheVariants.{Flush, Get, Install, Left, Retry}
 use Rattle.gm_flat.specs.declared.views.SlotView.{SlotView}
-use Rattle.gm_laws.proofs.Kit.{by}
 use Rattle.gm_laws.specs.Stands.{Stands}
-use Rattle.gm_determined.specs.Exactly.{AfterLook, CachedAt, HasFolio, HasFree, IsAgain, IsFault, IsMmio, IsOpen, IsUser}
+use Rattle.gm_determined.specs.Exactly.{AfterLook, CachedAt, HasFree, IsAgain, IsOpen, OneHolds}
 use Rattle.gm_determined.proofs.AfterFault.{Comes, IsHeld, faults_entry, known}
 
 free_frame : (frames i : ℕ) (d : Addition) (f : Flat) → UsesFirst frames i d f → HasFree frames f.folios
@@ -236,9 +235,6 @@ got_free : (o : Orders) (b : Backing) (n : ℕ) (a : Aim) (m s : ℕ) (l : Seen)
 got_free o b n a m s l past x h = (got_new (route_seen a l past) b n a l past x.1 h, adds_free o.setup.frames (index_in a.page (looked_slot l past)) (get_addition b n l.file (index_in a.page (looked_slot l past)) (flat past).files) (flat past) (x.2 h))
 
 -- one of the cases holds
-abbrev OneHolds : ℕ → Aim → Seen → List Entry → Type 0
-OneHolds frames a l past = IsFault a l past ⊎ (IsMmio a l past ⊎ (IsUser a l past ⊎ (IsAgain a l past ⊎ (((folio : Folio) × HasFolio folio a l past) ⊎ ((IsOpen a l past × IsFull frames (flat past).folios) ⊎ (IsOpen a l past × HasFree frames (flat past).folios))))))
-
 exit_holds : (why : Exit) (frames : ℕ) (a : Aim) (l : Seen) (past : List Entry) → ExitIsRight frames why a l past → OneHolds frames a l past
 exit_holds (MemoryFault f g s) frames a l past x = inl x.right_route
 exit_holds (Mmio g) frames a l past x = inr (inl x.right_route)

@@ -1,5 +1,5 @@
 -- A turn of a caller is determined, but for the spare room of spans.
-use Rattle.std.proofs.Common.{◌&&◌, ◌<◌, Bool, List, None, Option, Some, [], ap, false, inl, inr, length, not, refl, subst, sym, true, ℕ, ◌∙◌, ◌∷◌, ◌≡◌, ◌≤◌, ◌⊎◌, arith}
+use Rattle.std.proofs.Common.{◌<◌, Bool, List, None, Option, Some, [], ap, false, inl, inr, length, not, refl, subst, sym, true, ℕ, ◌∙◌, ◌∷◌, ◌≡◌, ◌≤◌, ◌⊎◌, arith}
 use Rattle.std.proofs.lemmas.Bool.{and_parts, both_ways}
 use Rattle.gm_base.specs.Extent.{Extent}
 use Rattle.gm_base.specs.Scripts.{Orders}

@@ -1,5 +1,5 @@
 -- A blocked caller writes nothing, and a call that is refused has its Answer alone.
-use Rattle.std.proofs.Common.{◌&&◌, ◌++◌, ◌<◌, ◌≤◌, Bool, List, None, Option, Some, [], ap, arith, eq-eqb, eqb, false, inl, inr, length, not, refl, subst, suc, sym, true, ℕ, ◌↔◌, ◌∙◌, ◌∷◌, ◌≡◌, ◌⊎◌}
+use Rattle.std.proofs.Common.{◌++◌, ◌≤◌, Bool, List, None, Option, Some, [], ap, arith, eq-eqb, eqb, false, inl, inr, length, not, refl, subst, suc, sym, true, ℕ, ◌∙◌, ◌∷◌, ◌≡◌}
 use Rattle.std.proofs.lemmas.Bool.{and_parts, both_ways, cond-true}
 use Rattle.gm_base.specs.Scripts.{Orders}
 use Rattle.gm_base.specs.declared.calls.Ioctl.{Ioctl}
@@ -25,7 +25,7 @@ use Rattle.gm_flat.specs.declared.effect.Reply.TheVariants.{Bad, Good}
 use Rattle.gm_flat.specs.declared.entry.Entry.{Entry}
 use Rattle.gm_flat.specs.declared.entry.What.{What}
 use Rattle.gm_flat.specs.declared.entry.What.TheVariants.{Acked, Answer, Begin, Change, End, Free, Gone, Judge, Page}
-use Rattle.gm_laws.proofs.Kit.{by, flat_at_all, flat_at_keep, none_is, some_same}
+use Rattle.gm_laws.proofs.Kit.{by, flat_at_all, flat_at_keep, none_is}
 use Rattle.gm_laws.specs.May.{May}
 use Rattle.gm_laws.specs.Ruled.{Ruled}
 use Rattle.gm_laws.specs.Stands.{Stands}
@@ -33,9 +33,9 @@ use Rattle.gm_laws.specs.Turns.{EachMay, IsTurn, onto}
 use Rattle.gm_determined.specs.Exactly.{OnlyAnswers}
 use Rattle.gm_determined.proofs.CallerTurn.{FirstRow, Known, first_row, known, some_next}
 use Rattle.gm_determined.proofs.Entries.{call_command}
-use Rattle.gm_determined.proofs.Placed.{BeginsTurn, InTurn, begins, begins_by as first_of, in_turn, stands_cut}
+use Rattle.gm_determined.proofs.Placed.{begins, begins_by as first_of, in_turn, stands_cut}
 use Rattle.gm_determined.proofs.Small.{false_true}
-use Rattle.gm_determined.proofs.Waits.{BracketFits, CallWaits, due_acked, unmarked}
+use Rattle.gm_determined.proofs.Waits.{due_acked, unmarked}
 
 -- a caller that waits to judge
 acks_some : (b : Option Bracket) (past : List Entry) → Acks b past → (d : Bracket) × (b ≡ Some d)
@@ -192,8 +192,8 @@ judged o e past h c i r s a w =
     let front = x.place.before in
     let rest = x.place.after in
     let row : is_caller_row o.setup c (front ++ Judge i ∷ rest) p ≡ true = subst (λ (v : What). is_caller_row o.setup c (front ++ v ∷ rest) p ≡ true) w
-        (subst (λ (z : Actor). is_row o.setup z (front ++ e.what ∷ rest) p ≡ true) a
-        (subst (λ (ws : List What). is_row o.setup e.actor ws p ≡ true) x.place.entries x.turn.row)) in
+    (subst (λ (z : Actor). is_row o.setup z (front ++ e.what ∷ rest) p ≡ true) a
+    (subst (λ (ws : List What). is_row o.setup e.actor ws p ≡ true) x.place.entries x.turn.row)) in
     let y = first_of o e past h x (judge_first o.setup c front i rest p row) in
     let t : IsTurn o k (Caller c) (Judge i ∷ rest) past = subst (λ (v : What). IsTurn o k (Caller c) (v ∷ rest) past) w (subst (λ (z : Actor). IsTurn o k z (e.what ∷ rest) past) a y.turn) in
     record {

@@ -1,5 +1,5 @@
 -- The Frees of a turn are determined by what stands before it and its first entry.
-use Rattle.std.proofs.Common.{List, None, Option, Some, [], ap, false, inl, inr, not, refl, subst, sym, true, ℕ, ◌∙◌, ◌∷◌, ◌≡◌, ◌⊎◌}
+use Rattle.std.proofs.Common.{List, None, Option, Some, [], ap, false, inl, inr, not, refl, sym, true, ℕ, ◌∙◌, ◌∷◌, ◌≡◌, ◌⊎◌}
 use Rattle.std.proofs.lemmas.Bool.{and_parts}
 use Rattle.gm_base.specs.Scripts.{Orders}
 use Rattle.gm_base.specs.declared.values.Actor.{Actor}
@@ -21,7 +21,7 @@ use Rattle.gm_laws.specs.Stands.{Stands}
 use Rattle.gm_laws.specs.Turns.{IsTurn}
 use Rattle.gm_determined.specs.Determined.{frees_in}
 use Rattle.gm_determined.proofs.Frees.{IsFreer, frees_same}
-use Rattle.gm_determined.proofs.Placed.{BeginsTurn, begins}
+use Rattle.gm_determined.proofs.Placed.{begins}
 use Rattle.gm_determined.proofs.Small.{false_true}
 
 -- a Free comes after a Change or a Retry alone

@@ -1,7 +1,6 @@
 -- Each entry of a right history stands in a turn by the tables.
 use Rattle.std.proofs.Common.{◌++◌, ◌<◌, List, [], ap, append_assoc, arith, eq-eqb, eqb, false, inl, inr, ltb, refl, subst, suc, sym, true, ℕ, ◌∙◌, ◌∷◌, ◌≡◌, ◌≤◌, ◌⊎◌}
 use Rattle.std.proofs.lemmas.Bool.{both_ways, cond-false, cond-true}
-use Rattle.std.proofs.lemmas.Bool.Decides.{nat_tests}
 use Rattle.gm_base.specs.Scripts.{Orders}
 use Rattle.gm_base.specs.declared.values.Actor.{Actor}
 use Rattle.gm_flat.specs.Histories.{same_turn}

@@ -1,5 +1,5 @@
--- A fault and a call in progress belong to the next command of their actor, and a call that has made its change has been
--- acknowledged.
+-- A fault and a call in progress belong to the next command of their actor, and a call that has made its change has
+-- been acknowledged.
 use Rattle.std.proofs.Common.{◌&&◌, Bool, List, None, Option, Some, [], cond, eqb, eqb-true, false, length, not, refl, subst, suc, sym, true, ℕ, ◌∷◌, ◌≡◌}
 use Rattle.std.proofs.lemmas.Bool.{and_parts, both_ways}
 use Rattle.gm_base.specs.Scripts.{Orders, commands_of}

@@ -17,8 +17,8 @@ ghost use Rattle.gm_laws.specs.Stands.{Stands};
 ghost use Rattle.gm_laws.specs.Turns.{IsNewTurn, IsTurn, onto};
 ghost use Rattle.gm_determined.specs.Determined.{AreHere, IsItsTurns, PlaysAnyAt, frees_in, look_at, roomless_entries, roomless_turn, stamps};
 
-/// A whole turn is determined by the past, its actor and that it is a kick or isn't, where each of its samples and looks has
-/// its own position, and a look is a turn of its own; but for the spare room of spans.
+/// A whole turn is determined by the past, its actor and that it is a kick or isn't, where each of its samples and
+/// looks has its own position, and a look is a turn of its own; but for the spare room of spans.
 #[tactic(auto, using(crate::proofs::Turn::turn_same))]
 pub fn turns_are_determined()
     ensures { (o : Orders) (turn : ℕ) (actor : Actor) (one two : List What) (past : List Entry) → Ruled o past → IsTurn o turn actor one past → IsTurn o turn actor two past → AreHere turn actor one past → AreHere turn actor two past → is_kick one ≡ is_kick two → roomless_turn one ≡ roomless_turn two }
@@ -36,8 +36,8 @@ pub fn turns_are_determined_by_stamps()
     ensures { (o : Orders) (turn : ℕ) (actor : Actor) (one two : List What) (past : List Entry) → Ruled o past → IsTurn o turn actor one past → IsTurn o turn actor two past → stamps one ≡ stamps two → is_kick one ≡ is_kick two → roomless_turn one ≡ roomless_turn two }
 {}
 
-/// Two right histories of one program that play the same turns, with samples and looks for the same positions, are equal, but
-/// for the spare room of spans.
+/// Two right histories of one program that play the same turns, with samples and looks for the same positions, are
+/// equal, but for the spare room of spans.
 #[tactic(auto, using(crate::proofs::History::stamped_same))]
 pub fn right_histories_are_determined_by_stamps()
     ensures { (o : Orders) (turns : List Turn) (one two : List Entry) → Right o one → Right o two → PlaysAnyAt o turns one → PlaysAnyAt o turns two → ((k : ℕ) → stamps (turn_entries k one) ≡ stamps (turn_entries k two)) → roomless_entries one ≡ roomless_entries two }
@@ -72,7 +72,8 @@ pub fn right_histories_need_no_spare_room()
     ensures { (o : Orders) (past : List Entry) → Right o past → Right o (roomless_entries past) }
 {}
 
-/// After pasts that differ in spare room alone, two turns with the same stamps, both kicks or neither, lead to pasts that do.
+/// After pasts that differ in spare room alone, two turns with the same stamps, both kicks or neither, lead to pasts
+/// that do.
 #[tactic(auto, using(crate::proofs::Stamped::alike_turns))]
 pub fn turns_keep_pasts_alike()
     ensures { (o : Orders) (turn : ℕ) (actor : Actor) (one two : List What) (past other : List Entry) → Ruled o past → roomless_entries past ≡ roomless_entries other → IsTurn o turn actor one past → IsTurn o turn actor two other → stamps one ≡ stamps two → is_kick one ≡ is_kick two → roomless_entries (onto turn actor one past) ≡ roomless_entries (onto turn actor two other) }
@@ -89,9 +90,9 @@ pub fn right_histories_are_their_turns()
     ensures { (o : Orders) (turns : List Turn) (past : List Entry) → Right o past → PlaysAnyAt o turns past → IsItsTurns o turns past }
 {}
 
-/// The Frees of a turn are determined by what stands before the turn and by its first entry: two turns by the tables with the
-/// same first entry, after the same past, free the same; and so do the turns of two right histories in which one entry stands
-/// after one past.
+/// The Frees of a turn are determined by what stands before the turn and by its first entry: two turns by the tables
+/// with the same first entry, after the same past, free the same; and so do the turns of two right histories in which
+/// one entry stands after one past.
 #[tactic(auto, using(crate::proofs::FreesLaw::turns_free, crate::proofs::FreesLaw::histories_free))]
 pub fn frees_are_determined()
     ensures by_tables { (o : Orders) (turn : ℕ) (actor : Actor) (first : What) (one two : List What) (past : List Entry) → Ruled o past → IsTurn o turn actor (first ∷ one) past → IsTurn o turn actor (first ∷ two) past → frees_in one ≡ frees_in two }

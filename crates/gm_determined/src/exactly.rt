@@ -19,8 +19,8 @@ ghost use Rattle.gm_flat.specs.declared.entry.What.TheVariants.{Answer, Flush, J
 ghost use Rattle.gm_laws.specs.Stands.{Stands};
 ghost use Rattle.gm_determined.specs.Exactly.{AfterGet, AfterLook, OnlyAnswers};
 
-/// After a Look, the fault's next entry but a Flush, told both ways: by the route, or for a file by whether it is shut, its
-/// index cached, and a frame free now.
+/// After a Look, the fault's next entry but a Flush, told both ways: by the route, or for a file by whether it is shut,
+/// its index cached, and a frame free now.
 pub fn what_follows_a_look()
     ensures { (o : Orders) (e : Entry) (past history : List Entry) (v : ℕ) (a : Aim) (missed : ℕ) (sample : Option ℕ) (seen : Seen) → Right o history → Stands e past history → e.actor ≡ Vcpu v → (e.what ≡ Flush → ⊥) → fault v past ≡ Faulting a missed sample (Some seen) None → AfterLook o.setup.frames e.what a seen past }
 {}
@@ -35,8 +35,8 @@ pub fn blocked_callers_write_nothing()
     ensures { (o : Orders) (e : Entry) (past history : List Entry) (c : ℕ) → Right o history → Stands e past history → e.actor ≡ Caller c → same_turn e past ≡ false → IsBlocked o (Caller c) past → ⊥ }
 {}
 
-/// A call that its table refuses has its Judge and, right after it, its Answer with that errno, and nothing else in the turn; and
-/// where a turn is so, its call was refused.
+/// A call that its table refuses has its Judge and, right after it, its Answer with that errno, and nothing else in the
+/// turn; and where a turn is so, its call was refused.
 pub fn refused_calls_only_answer()
     ensures only { (o : Orders) (e : Entry) (past history : List Entry) (c : ℕ) (ioctl : Ioctl) (errno : Errno) → Right o history → Stands e past history → e.actor ≡ Caller c → e.what ≡ Judge ioctl → plan o.setup ioctl (flat past) ≡ Refused errno → OnlyAnswers errno ioctl e past history }
     ensures so_only { (o : Orders) (e : Entry) (past history : List Entry) (c : ℕ) (ioctl : Ioctl) (errno : Errno) → Right o history → Stands e past history → e.actor ≡ Caller c → e.what ≡ Judge ioctl → turn_entries e.turn history ≡ Judge ioctl ∷ (Answer (Bad errno) ∷ []) → plan o.setup ioctl (flat past) ≡ Refused errno }
