@@ -49,7 +49,7 @@ abbrev pub NoFall : Entry → List Entry → Type 0
 NoFall e [] = Unit {0}
 NoFall e (d ∷ past) = d.turn ≤ e.turn
 
--- each Sample and each Look is a turn of its own, with its own position as `at`
+-- each Sample and each Look has its own position as `at`, and a Look is a turn of its own; so is a Sample, by the rows
 abbrev pub IsHere : What → Bool → List Entry → Type 0
 IsHere (Sample at) shared past = at ≡ length past
 IsHere (Look at slot attr file) shared past = (at ≡ length past) × (shared ≡ false)

@@ -65,7 +65,7 @@ abbrev pub IsShut : Option ℕ → Flat → Type 0
 IsShut None f = ⊥
 IsShut (Some file) f = in_use file f.files ≡ false
 
--- after a Look for a file that was shut since
+-- after a Look for a file that isn't in use now
 pub record ShutRetryIsRight (a : Aim) (sample : Option ℕ) (seen : Seen) (past : List Entry) : Type 0 where
   pub right_route : route_seen a seen past ≡ ToFile
   pub is_shut : IsShut seen.file (flat past)

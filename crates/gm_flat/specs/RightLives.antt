@@ -143,8 +143,9 @@ ComesAfter index folio cache [] = Unit {0}
 ComesAfter index folio cache (Free last pages ∷ []) = (before : ℕ) × IsRunAt before last pages cache × (before + pages ≤ index) × ((before + pages ≡ index) × (last.serial + pages ≡ folio.serial) × (last.frame + pages ≡ folio.frame) → ⊥)
 ComesAfter index folio cache (w ∷ ws) = ComesAfter index folio cache ws
 
--- of a turn whose entries are these so far, over the cache before it: after a Change the frees are the longest runs in
--- order of index, after a Retry the one folio whose last hold ended
+-- of a turn whose entries are these so far, over the cache before it: after a Change the frees are runs in order of index, no
+-- two of which are one run; after a Retry there is one, of one page. What leaves nothing over is that all lives are at rest
+-- when the turn ends; so they are the longest runs, and of a Retry the folio whose last hold ended
 abbrev pub IsPlaced : Folio → ℕ → List What → List Triple → Type 0
 IsPlaced folio pages (Change effect ∷ frees) cache = (index : ℕ) × IsRunAt index folio pages cache × ComesAfter index folio cache frees
 IsPlaced folio pages (Retry ∷ []) cache = pages ≡ 1

@@ -12,7 +12,7 @@ use Rattle.gm_laws.specs.MarkedSlot.{marked_slot_orders}
 use Rattle.gm_laws.specs.MixedBlock.{mixed_block_orders}
 use Rattle.gm_laws.specs.MoveAndDeletion.{move_and_deletion_orders}
 use Rattle.gm_laws.specs.OneRead.{one_read_orders}
-use Rattle.gm_laws.specs.WrongBodies.{always_retries, answers_before_acked, asks_only_where_a_leaf_went, block_leaf_beside_a_change, bound_twice_orders, deletes_without_a_mark, edges_not_renewed, exits_by_a_marked_slot, exits_by_the_miss, frees_a_held_page, hole_twice_orders, installs_by_a_marked_slot, keeps_old_words, keeps_the_mark, leaves_the_block_leaf, looks_at_the_generation_before, never_compares, one_frame_orders, other_page_orders, overlooks_the_last_page, resets_the_range, two_brackets_orders}
+use Rattle.gm_laws.specs.WrongBodies.{always_retries, answers_before_acked, asks_only_where_a_leaf_went, block_leaf_beside_a_change, bound_twice_orders, deletes_without_a_mark, edges_not_renewed, exits_by_a_marked_slot, exits_by_the_miss, frees_a_held_page, hole_twice_orders, gets_by_a_marked_slot, keeps_old_words, keeps_the_mark, leaves_the_block_leaf, looks_at_the_generation_before, never_compares, one_frame_orders, other_kind_orders, other_page_orders, overlooks_the_last_page, resets_the_range, two_brackets_orders}
 
 pub true_false : true ≡ false → ⊥
 true_false e = both_ways true e refl
@@ -77,11 +77,11 @@ overlooks_the_last_page_is_wrong r = r.calls.1.0
 pub looks_at_the_generation_before_is_wrong : Right one_read_orders looks_at_the_generation_before → ⊥
 looks_at_the_generation_before_is_wrong r = other_slot r.looks.0.right_slot
 
-pub exits_by_a_marked_slot_is_wrong : Right marked_slot_orders exits_by_a_marked_slot → ⊥
+pub exits_by_a_marked_slot_is_wrong : Right other_kind_orders exits_by_a_marked_slot → ⊥
 exits_by_a_marked_slot_is_wrong r = again_fault r.looks.0.right_route
 
-pub installs_by_a_marked_slot_is_wrong : Right marked_slot_orders installs_by_a_marked_slot → ⊥
-installs_by_a_marked_slot_is_wrong r = r.installs.1.0
+pub gets_by_a_marked_slot_is_wrong : Right marked_slot_orders gets_by_a_marked_slot → ⊥
+gets_by_a_marked_slot_is_wrong r = r.installs.0
 
 pub deletes_without_a_mark_is_wrong : Right marked_slot_orders deletes_without_a_mark → ⊥
 deletes_without_a_mark_is_wrong r = false_true (r.order.0.whole_before refl)

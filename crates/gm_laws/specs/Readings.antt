@@ -78,7 +78,7 @@ away_with m e = takes_away m e.what
 abbrev pub IsStanding : Mapping → List Entry → Type 0
 IsStanding m past = (e : Entry) × (before : List Entry) × Stands e before past × Among m (made_by e.what e.actor before) × NoneAfter (length before) (away_with m) past
 
--- fills: the last 64 of the vCPU's Touches since its last Flush whose fill is their own position
+-- fills: the last 256 of the vCPU's Touches since its last Flush whose fill is their own position
 abbrev pub fill_at : ℕ → Aim → Level → Flat → Mapping
 fill_at n access level f = record { made = n; page = access.page; level = level; kind = access.kind; gives = λ h. named f h }
 

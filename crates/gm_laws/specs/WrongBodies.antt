@@ -8,7 +8,7 @@ use Rattle.gm_base.specs.declared.values.Kind.TheVariants.{Private, Shared}
 use Rattle.gm_base.specs.declared.values.Level.TheVariants.{Block, Small}
 use Rattle.gm_base.specs.declared.values.Op.TheVariants.{Read, Write}
 use Rattle.gm_flat.specs.declared.effect.Backing.TheVariants.{Folio as InFolio, User}
-use Rattle.gm_flat.specs.declared.effect.Effect.TheVariants.{Attr, Cut, File, Slot}
+use Rattle.gm_flat.specs.declared.effect.Effect.TheVariants.{Attr, Cut, File, Mark, Slot}
 use Rattle.gm_flat.specs.declared.effect.Exit.TheVariants.{Fault as MemoryFault}
 use Rattle.gm_flat.specs.declared.effect.Reply.TheVariants.{Good as GoodReply}
 use Rattle.gm_flat.specs.declared.entry.Entry.{Entry}
@@ -212,13 +212,32 @@ overlooks_the_last_page = entry 3 (Caller 0) (Answer (GoodReply 0)) ∷ entry 3 
 abbrev pub looks_at_the_generation_before : List Entry
 looks_at_the_generation_before = entry 5 (Vcpu 0) (Look 6 None Shared None) ∷ front 6 one_read
 
--- a fault that finds a marked slot and leaves the guest
-abbrev pub exits_by_a_marked_slot : List Entry
-exits_by_a_marked_slot = entry 8 (Vcpu 0) (Left (MemoryFault 0 0 4096)) ∷ front 11 marked_slot
+-- A private access to a shared page under a slot that is marked.
+abbrev pub other_kind_orders : Orders
+other_kind_orders = record { setup = record { frames = 4; user = 4; vcpus = 1; callers = 1; huge = false }; vcpus = (TouchCommand (record { page = 0; word = 0; op = Read; kind = Private }) ∷ []) ∷ []; callers = (CallCommand (Region2 (record { slot = 0; flags = 0; gpa = 0; size = 4096; user = 0; fd = 0; offset = 0 })) ∷ CallCommand (Region2 (record { slot = 0; flags = 0; gpa = 0; size = 0; user = 0; fd = 0; offset = 0 })) ∷ []) ∷ [] }
 
--- a fault that finds a marked slot and installs its page
-abbrev pub installs_by_a_marked_slot : List Entry
-installs_by_a_marked_slot = entry 9 (Vcpu 0) (Install 0 Small) ∷ entry 8 (Vcpu 0) (Get (User 0) 0) ∷ front 11 marked_slot
+abbrev pub other_kind : List Entry
+other_kind =
+    entry 7 (Vcpu 0) (Look 10 (Some 0) Shared None) ∷
+    entry 6 (Vcpu 0) (Sample 9) ∷
+    entry 5 (Vcpu 0) (Miss (record { page = 0; word = 0; op = Read; kind = Private })) ∷
+    entry 4 (Vcpu 0) Enter ∷
+    entry 4 (Vcpu 0) Flush ∷
+    entry 3 (Caller 0) (Change (Mark 0)) ∷
+    entry 3 (Caller 0) (Begin (record { list = (record { lo = 0; hi = 1 }) ∷ []; spare = 0 })) ∷
+    entry 2 (Caller 0) (Judge (Region2 (record { slot = 0; flags = 0; gpa = 0; size = 0; user = 0; fd = 0; offset = 0 }))) ∷
+    entry 1 (Caller 0) (Answer (GoodReply 0)) ∷
+    entry 1 (Caller 0) (Change (Slot 0 0 1 0 0 None 0)) ∷
+    entry 1 (Caller 0) (Judge (Region2 (record { slot = 0; flags = 0; gpa = 0; size = 4096; user = 0; fd = 0; offset = 0 }))) ∷
+    []
+
+-- a fault that finds a marked slot and leaves the guest: but for the mark its memory fault would be right
+abbrev pub exits_by_a_marked_slot : List Entry
+exits_by_a_marked_slot = entry 8 (Vcpu 0) (Left (MemoryFault 8 0 4096)) ∷ other_kind
+
+-- a fault that finds a marked slot and gets its page, to install it: but for the mark its Get would be right
+abbrev pub gets_by_a_marked_slot : List Entry
+gets_by_a_marked_slot = entry 8 (Vcpu 0) (Get (User 0) 0) ∷ front 11 marked_slot
 
 -- a deletion that doesn't mark its slot in the turn of its Begin
 abbrev pub deletes_without_a_mark : List Entry

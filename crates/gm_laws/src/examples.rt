@@ -13,7 +13,7 @@ ghost use Rattle.gm_laws.specs.OneRead.{one_read, one_read_orders, one_read_turn
 ghost use Rattle.gm_laws.specs.PopulationAndClose.{population_and_close, population_and_close_orders};
 ghost use Rattle.gm_laws.specs.Ruled.{Ruled};
 ghost use Rattle.gm_laws.specs.Smallest.{one_caller_orders, smallest, smallest_orders};
-ghost use Rattle.gm_laws.specs.WrongBodies.{always_retries, answers_before_acked, asks_only_where_a_leaf_went, block_leaf_beside_a_change, bound_twice_orders, deletes_without_a_mark, edges_not_renewed, exits_by_a_marked_slot, exits_by_the_miss, frees_a_held_page, hole_twice_orders, installs_by_a_marked_slot, keeps_old_words, keeps_the_mark, leaves_the_block_leaf, looks_at_the_generation_before, never_compares, one_frame_orders, other_page_orders, overlooks_the_last_page, resets_the_range, two_brackets_orders};
+ghost use Rattle.gm_laws.specs.WrongBodies.{always_retries, answers_before_acked, asks_only_where_a_leaf_went, block_leaf_beside_a_change, bound_twice_orders, deletes_without_a_mark, edges_not_renewed, exits_by_a_marked_slot, exits_by_the_miss, frees_a_held_page, hole_twice_orders, gets_by_a_marked_slot, keeps_old_words, keeps_the_mark, leaves_the_block_leaf, looks_at_the_generation_before, never_compares, one_frame_orders, other_kind_orders, other_page_orders, overlooks_the_last_page, resets_the_range, two_brackets_orders};
 
 /// The histories of worked rows follow the tables, so they are right.
 pub fn worked_rows_follow_the_tables()
@@ -41,8 +41,8 @@ pub fn wrong_bodies_are_refused()
     ensures answers_before_acked_body { Right flush_pending_orders answers_before_acked → ⊥ }
     ensures exits_by_the_miss_body { Right hole_twice_orders exits_by_the_miss → ⊥ }
     ensures overlooks_the_last_page_body { Right bound_twice_orders overlooks_the_last_page → ⊥ }
-    ensures exits_by_a_marked_slot_body { Right marked_slot_orders exits_by_a_marked_slot → ⊥ }
-    ensures installs_by_a_marked_slot_body { Right marked_slot_orders installs_by_a_marked_slot → ⊥ }
+    ensures exits_by_a_marked_slot_body { Right other_kind_orders exits_by_a_marked_slot → ⊥ }
+    ensures gets_by_a_marked_slot_body { Right marked_slot_orders gets_by_a_marked_slot → ⊥ }
     ensures deletes_without_a_mark_body { Right marked_slot_orders deletes_without_a_mark → ⊥ }
     ensures keeps_the_mark_body { Right move_and_deletion_orders keeps_the_mark → ⊥ }
     ensures looks_at_the_generation_before_body { Right one_read_orders looks_at_the_generation_before → ⊥ }

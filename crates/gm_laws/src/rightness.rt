@@ -83,8 +83,10 @@ pub fn frames_differ_everywhere()
 {}
 
 /// At every position of a right history, also inside a turn: leaves name what is named now; no leaf lies under a bracket; a
-/// fill gives what was named then, and is still named, or its vCPU is outside and flushes first; a vCPU inside has flushed
-/// since each acknowledged Begin; and a fault is stale, or what it looked up and got is true.
+/// fill gives what was named then, and is still named with marks left aside, or its vCPU is outside and flushes first; no fill
+/// over a page of a bracket lies between its Begin and its End, and a vCPU inside has flushed since each acknowledged Begin,
+/// also of brackets that have ended; a fault is stale, or what it looked up and got is true; and what a leaf, or a fill of a
+/// vCPU inside, gives is cached.
 pub fn invariant_holds()
     ensures now { (o : Orders) (past : List Entry) → Right o past → Invariant past }
     ensures before { (o : Orders) (e : Entry) (front past : List Entry) → Right o past → Stands e front past → Invariant front }

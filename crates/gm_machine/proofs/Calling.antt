@@ -1,6 +1,6 @@
 -- The turns of callers: a call that is refused, one that makes a slot, and the end.
-use Rattle.std.proofs.Common.{◌≡◌, ℕ, zero, Ok, ◌+◌, ◌%◌, ◌<◌, ◌≤◌, ◌&&◌, leb, List, [], ◌∷◌, Bool, true, false, length, get_or, set, suc, Option, Some, None, slice_get, arith, subst, sym, ◌∙◌, ap, refl, cond, eqb, inl, inr, ◌⊎◌}
-use Rattle.std.proofs.lemmas.Bool.{both_ways, cond-true, cond-false, eq-eqb, ne_eqb}
+use Rattle.std.proofs.Common.{◌≡◌, ℕ, zero, Ok, ◌+◌, ◌%◌, ◌<◌, ◌≤◌, ◌&&◌, leb, List, [], ◌∷◌, Bool, true, false, not, length, get_or, set, suc, Option, Some, None, slice_get, arith, subst, sym, ◌∙◌, ap, refl, cond, eqb, inl, inr, ◌⊎◌}
+use Rattle.std.proofs.lemmas.Bool.{and_from, both_ways, cond-true, cond-false, eq-eqb, ne_eqb}
 use Rattle.std.proofs.lemmas.Bool.Decides.{nat_tests}
 use Rattle.std.proofs.lemmas.List.{length-set}
 use Rattle.gm_base.specs.declared.calls.Ioctl.{Ioctl}
@@ -13,7 +13,7 @@ use Rattle.gm_base.specs.declared.values.Errno.{Errno}
 use Rattle.gm_flat.specs.Calls.{Plan, Refused, Short, new_slot, page_of, plan, slot_plan, wants_file}
 use Rattle.gm_flat.specs.Effects.{slot_fits}
 use Rattle.gm_flat.specs.FlatState.{Flat}
-use Rattle.gm_flat.specs.Histories.{Call, call, done, gone, with_change}
+use Rattle.gm_flat.specs.Histories.{Call, call, done, gone, is_mark, with_change}
 use Rattle.gm_flat.specs.Replay.{flat}
 use Rattle.gm_flat.specs.RightCalls.{IsAnswer, IsEffect, RightAnswer, RightChange}
 use Rattle.gm_flat.specs.RightLives.{plan_of}
@@ -202,7 +202,7 @@ no_file : (r : Region) → (r.flags ≡ 0) ⊎ (r.flags ≡ 2) → wants_file r 
 no_file r h = elim h [ inl e ↦ rw e refl | inr e ↦ rw e refl ]
 
 abbrev pub plain_slot : Region → SlotView
-plain_slot r = record { id = r.slot; base = page_of r.gpa; pages = page_of r.size; user = page_of r.user; flags = r.flags; file = None; index = 0 }
+plain_slot r = record { id = r.slot; base = page_of r.gpa; pages = page_of r.size; user = page_of r.user; flags = r.flags; file = None; index = 0; invalid = false }
 
 made_plain : (r : Region) → wants_file r ≡ false → made_slot r ≡ plain_slot r
 made_plain r h = rw h refl
@@ -285,17 +285,17 @@ no_more w c d k n e h le =
     let z = e.1 in
     omega arith
 
-pub changed_own : (t : Bool) (x y : Option Call) → t ≡ true → cond t None (cond t (with_change (cond t x y)) (cond t x y)) ≡ None
+pub changed_own : (t : Bool) (x y : Option Call) → t ≡ true → cond t None (cond (t && true) (with_change (cond t x y)) (cond t x y)) ≡ None
 changed_own true x y e = refl
 changed_own false x y e = absurd (both_ways false refl e)
 
-pub changed_other : (t : Bool) (x y : Option Call) → t ≡ false → cond t None (cond t (with_change (cond t x y)) (cond t x y)) ≡ y
+pub changed_other : (t : Bool) (x y : Option Call) → t ≡ false → cond t None (cond (t && true) (with_change (cond t x y)) (cond t x y)) ≡ y
 changed_other false x y e = refl
 changed_other true x y e = absurd (both_ways true e refl)
 
-pub own_changed : (t c : ℕ) (ioctl : Ioctl) (effect : Effect) (past : List Entry) → call c (by t (Caller c) (Change effect) ∷ by t (Caller c) (Judge ioctl) ∷ past) ≡ Some (judged_call ioctl past true)
-own_changed t c ioctl effect past =
-    cond-true (eqb c c) (with_change (call c (by t (Caller c) (Judge ioctl) ∷ past))) (call c (by t (Caller c) (Judge ioctl) ∷ past)) (self c) ∙ ap with_change (own_call t c ioctl past)
+pub own_changed : (t c : ℕ) (ioctl : Ioctl) (effect : Effect) (past : List Entry) → is_mark effect ≡ false → call c (by t (Caller c) (Change effect) ∷ by t (Caller c) (Judge ioctl) ∷ past) ≡ Some (judged_call ioctl past true)
+own_changed t c ioctl effect past unmarked =
+    cond-true (eqb c c && not (is_mark effect)) (with_change (call c (by t (Caller c) (Judge ioctl) ∷ past))) (call c (by t (Caller c) (Judge ioctl) ∷ past)) (and_from (eqb c c) (not (is_mark effect)) (self c) (ap not unmarked)) ∙ ap with_change (own_call t c ioctl past)
 
 pub plan_then : (w : View) (t c : ℕ) (ioctl : Ioctl) (effect : Effect) (made : Bool) → plan_of w.setup (judged_call ioctl w.past made) (by t (Caller c) (Change effect) ∷ by t (Caller c) (Judge ioctl) ∷ w.past) ≡ plan w.setup ioctl (flat w.past)
 plan_then w t c ioctl effect made =
@@ -315,7 +315,7 @@ make_turn w t c r s lt may plain planned =
     let p1 : plan_of w.setup (judged_call ioctl w.past false) j ≡ Short effect 0 = plan_now w t c ioctl false ∙ planned in
     let p2 : plan_of w.setup (judged_call ioctl w.past true) k ≡ Short effect 0 = plan_then w t c ioctl effect true ∙ planned in
     let row : is_first_row (plan w.setup ioctl (flat w.past)) (Change effect ∷ Answer (Good 0) ∷ []) ≡ true = rw planned refl in
-    let changes : Changes w.setup (Some (judged_call ioctl w.past false)) None j = (refl, subst (λ (p : Plan). IsDue (length j) (length w.past) p None) (sym p1) refl) in
+    let changes : Changes w.setup effect (Some (judged_call ioctl w.past false)) None j = (refl, subst (λ (p : Plan). IsDue (length j) (length w.past) p None) (sym p1) refl) in
     turn_by w (made w t c r) t (Caller c) (Judge ioctl ∷ Change effect ∷ Answer (Good 0) ∷ []) false s lt
     (answer_stands (changed w1 t c r) t c (Good 0) st2 lt) refl refl (
       record { command = may.command; none_in_progress = may.none_in_progress; locks_free = may.locks_free },
@@ -324,7 +324,7 @@ make_turn w t c r s lt may plain planned =
           rw (own_call t c ioctl w.past, s.calls.no_bracket c) changes,
           subst (λ (o : Option Call). RightChange w.setup effect o j) (sym (own_call t c ioctl w.past)) (subst (IsEffect effect) (sym p1) refl),
         ),
-        ((s.calls.no_bracket c, subst (λ (o : Option Call). RightAnswer w.setup (Good 0) o k) (sym (own_changed t c ioctl effect w.past)) (subst (λ (p : Plan). IsAnswer w.setup (Good 0) (judged_call ioctl w.past true) p k) (sym p2) (refl, refl))), tt),
+        ((s.calls.no_bracket c, subst (λ (o : Option Call). RightAnswer w.setup (Good 0) o k) (sym (own_changed t c ioctl effect w.past refl)) (subst (λ (p : Plan). IsAnswer w.setup (Good 0) (judged_call ioctl w.past true) p k) (sym p2) (refl, refl))), tt),
       ),
     )
     row refl

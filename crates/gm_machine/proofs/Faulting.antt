@@ -175,7 +175,7 @@ holds_none serial a m s l g u h = no_folio g.backing u h
     no_folio (InFolio folio) u h = u
 
 -- so its retry frees nothing
-retry_freed : (t v : ℕ) (past : List Entry) (x : Fault) → IsNewTurn t past → fault v past ≡ x → ((serial : ℕ) → FaultHolds serial x → ⊥) → AllFreed (by t (Vcpu v) Retry ∷ past)
+pub retry_freed : (t v : ℕ) (past : List Entry) (x : Fault) → IsNewTurn t past → fault v past ≡ x → ((serial : ℕ) → FaultHolds serial x → ⊥) → AllFreed (by t (Vcpu v) Retry ∷ past)
 retry_freed t v past x new is none loose serial used =
     let e : Entry = by t (Vcpu v) Retry in
     let before : IsUsed serial past = subst (IsUsed serial) (cond-false (same_turn e past) (before_turn past) past (new_turn t (Vcpu v) Retry past new)) used in
@@ -187,15 +187,11 @@ retry_freed t v past x new is none loose serial used =
       ]
     ]
 
-pub retry_turn : (w : View) (t v : ℕ) (k : Ticket) (y : Sampled) (b : Backing) → Settled w t → v < w.setup.vcpus → get_or w.faults v None ≡ Some k → k.sampled ≡ Some y → k.backing ≡ Some b → (range_holds (open_range w.mmu.progress) k.access.page || not (eqb w.mmu.progress.seq y.seq)) ≡ true → Turned w (retried w t v) t (Vcpu v) false
-retry_turn w t v k y b s lt h sy kb is_stale =
-    let st = s.stands in
+pub retry_stands : (w : View) (t v : ℕ) → Stands w → v < w.setup.vcpus → Stands (retried w t v)
+retry_stands w t v st lt =
     let x = st.actors in
     let e : Entry = by t (Vcpu v) Retry in
-    let p = holding w.setup.user w.mmu.progress.seq w.past k (fault v w.past) (held_fault w v k st lt h) y b sy kb in
-    let now_stale : stale (Some p.sample) p.access.page w.past ≡ true =
-    sym (stale_same w y p.sample p.access.page st p.sample_is) ∙ subst (λ (a : Aim). (range_holds (open_range w.mmu.progress) a.page || not (eqb w.mmu.progress.seq y.seq)) ≡ true) p.access_is is_stale in
-    let st2 : Stands (retried w t v) = record {
+    record {
       sizes = sizes_kept w (e ∷ w.past) w.mmu w.slots w.user (retried w t v).faults w.ended w.answered w.gone st.sizes refl refl refl (length-set w.faults v _) refl refl refl refl;
       commanded = st.commanded;
       actors = record {
@@ -208,8 +204,15 @@ retry_turn w t v k y b s lt h sy kb is_stale =
       };
       stores = record { files_are = st.stores.files_are; frames_are = st.stores.frames_are };
       memory = memory_quiet w e (retried w t v).faults w.ended st.memory (λ u. refl) (λ u. refl) (λ u. refl) refl refl refl (λ page word. refl) refl;
-    } in
-    one_by w (retried w t v) t (Vcpu v) Retry false s lt st2 refl refl
+    }
+
+pub retry_turn : (w : View) (t v : ℕ) (k : Ticket) (y : Sampled) (b : Backing) → Settled w t → v < w.setup.vcpus → get_or w.faults v None ≡ Some k → k.sampled ≡ Some y → k.backing ≡ Some b → (range_holds (open_range w.mmu.progress) k.access.page || not (eqb w.mmu.progress.seq y.seq)) ≡ true → Turned w (retried w t v) t (Vcpu v) false
+retry_turn w t v k y b s lt h sy kb is_stale =
+    let st = s.stands in
+    let p = holding w.setup.user w.mmu.progress.seq w.past k (fault v w.past) (held_fault w v k st lt h) y b sy kb in
+    let now_stale : stale (Some p.sample) p.access.page w.past ≡ true =
+    sym (stale_same w y p.sample p.access.page st p.sample_is) ∙ subst (λ (a : Aim). (range_holds (open_range w.mmu.progress) a.page || not (eqb w.mmu.progress.seq y.seq)) ≡ true) p.access_is is_stale in
+    one_by w (retried w t v) t (Vcpu v) Retry false s lt (retry_stands w t v st lt) refl refl
     (subst (MayRetry w.past) (sym p.fault_is) now_stale)
     refl refl (retry_freed t v w.past _ s.new_turn p.fault_is (λ serial. holds_none serial p.access p.missed p.sample p.seen p.gotten p.user_page))
     (record { pagings_are = s.calls.pagings_are; none_beyond = s.calls.none_beyond; no_bracket = s.calls.no_bracket }) s.due tt

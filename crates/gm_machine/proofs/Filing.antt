@@ -115,7 +115,7 @@ create_turn w t c ioctl pages s lt may small planned =
     let p1 : plan_of w.setup (judged_call ioctl w.past false) j ≡ Short effect n = plan_now w t c ioctl false ∙ here in
     let p2 : plan_of w.setup (judged_call ioctl w.past true) k ≡ Short effect n = plan_then w t c ioctl effect true ∙ here in
     let row : is_first_row (plan w.setup ioctl (flat w.past)) (Change effect ∷ Answer (Good n) ∷ []) ≡ true = rw here refl in
-    let changes : Changes w.setup (Some (judged_call ioctl w.past false)) None j = (refl, subst (λ (p : Plan). IsDue (length j) (length w.past) p None) (sym p1) refl) in
+    let changes : Changes w.setup effect (Some (judged_call ioctl w.past false)) None j = (refl, subst (λ (p : Plan). IsDue (length j) (length w.past) p None) (sym p1) refl) in
     turn_by w (filed w t c ioctl pages) t (Caller c) (Judge ioctl ∷ Change effect ∷ Answer (Good n) ∷ []) false s lt
     (answer_stands (file_made w1 t c pages) t c (Good n) st2 lt) refl refl (
       record { command = may.command; none_in_progress = may.none_in_progress; locks_free = may.locks_free },
@@ -124,7 +124,7 @@ create_turn w t c ioctl pages s lt may small planned =
           rw (own_call t c ioctl w.past, s.calls.no_bracket c) changes,
           subst (λ (o : Option Call). RightChange w.setup effect o j) (sym (own_call t c ioctl w.past)) (subst (IsEffect effect) (sym p1) refl),
         ),
-        ((s.calls.no_bracket c, subst (λ (o : Option Call). RightAnswer w.setup (Good n) o k) (sym (own_changed t c ioctl effect w.past)) (subst (λ (p : Plan). IsAnswer w.setup (Good n) (judged_call ioctl w.past true) p k) (sym p2) (refl, refl))), tt),
+        ((s.calls.no_bracket c, subst (λ (o : Option Call). RightAnswer w.setup (Good n) o k) (sym (own_changed t c ioctl effect w.past refl)) (subst (λ (p : Plan). IsAnswer w.setup (Good n) (judged_call ioctl w.past true) p k) (sym p2) (refl, refl))), tt),
       ),
     )
     row refl

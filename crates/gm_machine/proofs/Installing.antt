@@ -15,7 +15,7 @@ use Rattle.gm_flat.specs.FlatState.{AttrCall, Flat}
 use Rattle.gm_flat.specs.Histories.{Fault, Faulting, NoFault, fault}
 use Rattle.gm_flat.specs.Invalidation.{hull, stale}
 use Rattle.gm_flat.specs.Mappings.{Mapping, covered, leaf_by, leaves, off_extent}
-use Rattle.gm_flat.specs.NamedPage.{Named, named, named_by, user_named}
+use Rattle.gm_flat.specs.NamedPage.{Named, named, named_by, unmarked, user_named}
 use Rattle.gm_flat.specs.Replay.{flat}
 use Rattle.gm_flat.specs.RightLevel.{IsWholeBlock}
 use Rattle.gm_flat.specs.RightTouch.{CanUse}
@@ -76,13 +76,17 @@ gives_user user page kind backing s o e b h =
     zero_offset : (n p : ℕ) → n ≡ n + (p - p)
     zero_offset n p = omega arith
 
--- what a page has that can be used by a shared access is the user page of the slot over it
-gives_by : (user page : ℕ) (a : Aim) (backing : Backing) (slots : List SlotView) (o : Option SlotView) → slot_over slots page ≡ o → AllOf (IsBounded user) slots → CanUse a backing (user_named page o) → GivesAs user (record { first = page; level = Small; kind = a.kind; place = place_by backing; writable = writable_by o }) page (user_named page o)
-gives_by user page a backing slots None e b u = absurd u
-gives_by user page a backing slots (Some s) e b u = gives_user user page a.kind backing s (Some s) refl (bounded_over user page s slots b e) u.1
+gives_open : (user page : ℕ) (a : Aim) (backing : Backing) (s : SlotView) (t : Bool) → (lies_over s page ≡ true) × IsBounded user s → CanUse a backing (user_named page (cond t None (Some s))) → GivesAs user (record { first = page; level = Small; kind = a.kind; place = place_by backing; writable = writable_by (Some s) }) page (user_named page (cond t None (Some s)))
+gives_open user page a backing s true b u = absurd u
+gives_open user page a backing s false b u = gives_user user page a.kind backing s (Some s) refl b u.1
 
-shared_named : (f : Flat) (page : ℕ) → f.attrs ≡ [] → named f page ≡ user_named page (slot_over f.slots page)
-shared_named f page h = ap (λ (calls : List AttrCall). named_by page f.cache (attr_of page calls) (slot_over f.slots page)) h
+-- what a page has that can be used by a shared access is the user page of the slot over it, which isn't marked
+gives_by : (user page : ℕ) (a : Aim) (backing : Backing) (slots : List SlotView) (o : Option SlotView) → slot_over slots page ≡ o → AllOf (IsBounded user) slots → CanUse a backing (user_named page (unmarked o)) → GivesAs user (record { first = page; level = Small; kind = a.kind; place = place_by backing; writable = writable_by o }) page (user_named page (unmarked o))
+gives_by user page a backing slots None e b u = absurd u
+gives_by user page a backing slots (Some s) e b u = gives_open user page a backing s s.invalid (bounded_over user page s slots b e) u
+
+shared_named : (f : Flat) (page : ℕ) → f.attrs ≡ [] → named f page ≡ user_named page (unmarked (slot_over f.slots page))
+shared_named f page h = ap (λ (calls : List AttrCall). named_by page f.cache (attr_of page calls) (unmarked (slot_over f.slots page))) h
 
 one_page : (page h : ℕ) → (leb page h && ltb h (page + 1)) ≡ true → page ≡ h
 one_page page h e = grind (arith, nat_tests)
@@ -99,7 +103,7 @@ map_of w page kind = record { made = length w.past; page = page; level = Small; 
 new_alike : (w : View) (a : Aim) (backing : Backing) → Stands w → CanUse a backing (named (flat w.past) a.page) → IsAlike w.setup.user (leaf_of w a.page a.kind backing) (map_of w a.page a.kind)
 new_alike w a backing st usable =
     let m = st.memory in
-    let name : named (flat w.past) a.page ≡ user_named a.page (slot_over w.slots.slots a.page) = shared_named (flat w.past) a.page m.all_shared ∙ ap (λ (ss : List SlotView). user_named a.page (slot_over ss a.page)) (sym m.slots_are) in
+    let name : named (flat w.past) a.page ≡ user_named a.page (unmarked (slot_over w.slots.slots a.page)) = shared_named (flat w.past) a.page m.all_shared ∙ ap (λ (ss : List SlotView). user_named a.page (unmarked (slot_over ss a.page))) (sym m.slots_are) in
     let here : GivesAs w.setup.user (leaf_of w a.page a.kind backing) a.page (named (flat w.past) a.page) =
     subst (λ (o : Option Named). GivesAs w.setup.user (leaf_of w a.page a.kind backing) a.page o) (sym name)
     (gives_by w.setup.user a.page a backing w.slots.slots (slot_over w.slots.slots a.page) refl m.slots_bounded (subst (CanUse a backing) name usable)) in

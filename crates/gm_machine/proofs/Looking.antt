@@ -1,12 +1,12 @@
--- The turns of a fault in flight: it looks up its slot, leaves the guest, or gets its user page.
-use Rattle.std.proofs.Common.{◌≡◌, ℕ, ◌+◌, ◌<◌, List, [], ◌∷◌, false, length, get_or, set, suc, Option, Some, None, IfSome, arith, subst, sym, ◌∙◌, ap, refl, eqb}
+-- The turns of a fault in flight: it looks up its slot, leaves the guest, tries again, or gets its user page.
+use Rattle.std.proofs.Common.{◌≡◌, ℕ, ◌+◌, ◌<◌, List, [], ◌∷◌, false, length, get_or, set, suc, Option, Some, None, IfSome, arith, subst, sym, ◌∙◌, ap, refl, eqb, inl}
 use Rattle.std.proofs.lemmas.Bool.{cond-true, cond-false}
 use Rattle.std.proofs.lemmas.List.{length-set}
 use Rattle.gm_base.specs.Aim.{Aim}
 use Rattle.gm_base.specs.declared.values.Actor.TheVariants.{Vcpu}
 use Rattle.gm_base.specs.declared.values.Kind.TheVariants.{Shared}
 use Rattle.gm_fault.specs.Routes.{IsSlotOver, route_of}
-use Rattle.gm_fault.specs.declared.routes.Route.TheVariants.{Exit, File, User}
+use Rattle.gm_fault.specs.declared.routes.Route.TheVariants.{Again, Exit, File, User}
 use Rattle.gm_fault.specs.declared.ticket.Ticket.{Ticket}
 use Rattle.gm_flat.specs.Attribute.{attr_of}
 use Rattle.gm_flat.specs.Effects.{Addition, add}
@@ -21,19 +21,20 @@ use Rattle.gm_flat.specs.declared.effect.Backing.{Backing}
 use Rattle.gm_flat.specs.declared.effect.Backing.TheVariants.{User as InUser}
 use Rattle.gm_flat.specs.declared.effect.Exit.{Exit as Why}
 use Rattle.gm_flat.specs.declared.entry.Entry.{Entry}
-use Rattle.gm_flat.specs.declared.entry.What.TheVariants.{Get, Left, Look}
+use Rattle.gm_flat.specs.declared.entry.What.TheVariants.{Get, Left, Look, Retry}
 use Rattle.gm_flat.specs.declared.views.Looked.{Looked}
 use Rattle.gm_flat.specs.declared.views.Sampled.{Sampled}
 use Rattle.gm_flat.specs.declared.views.SlotView.{SlotView}
 use Rattle.gm_laws.proofs.Kit.{by, flat_at_all}
 use Rattle.gm_laws.proofs.RuledIsRight.{right}
 use Rattle.gm_laws.proofs.SlotsKeep.{slots_now}
-use Rattle.gm_machine.proofs.Faulting.{held_fault}
+use Rattle.gm_laws.specs.May.{MayRetry}
+use Rattle.gm_machine.proofs.Faulting.{held_fault, retried, retry_freed, retry_stands}
 use Rattle.gm_machine.proofs.Flights.{faults_set, look_more, sample_more}
 use Rattle.gm_machine.proofs.Lists.{self}
-use Rattle.gm_machine.proofs.One.{one_entry}
+use Rattle.gm_machine.proofs.One.{one_by, one_entry}
 use Rattle.gm_machine.proofs.Quiet.{ended_set, memory_quiet, sizes_kept}
-use Rattle.gm_machine.proofs.Sights.{exit_right, get_right, looked_now, no_file, sight_of}
+use Rattle.gm_machine.proofs.Sights.{again_right, exit_right, get_right, looked_now, no_file, sight_of}
 use Rattle.gm_machine.proofs.Stages.{looking, seeing}
 use Rattle.gm_machine.specs.Settled.{Settled, Turned}
 use Rattle.gm_machine.specs.Stands.{Stands}
@@ -142,6 +143,17 @@ exit_turn w t v k y why s lt h l n r =
     (subst (λ (f : Fault). IsLooked f × RightExit w.setup.frames why w.past f) (sym p.fault_is)
     (tt, exit_right w.setup.frames why p.access p.seen w.past w.setup.user y p.shared p.look_is (subst (λ (a : Aim). route_of y a ≡ Exit why) p.access_is r)))
     refl refl refl (record { pagings_are = s.calls.pagings_are; none_beyond = s.calls.none_beyond; no_bracket = s.calls.no_bracket }) s.due tt
+
+-- a retry under a marked slot
+
+pub again_turn : (w : View) (t v : ℕ) (k : Ticket) (y : Looked) → Settled w t → v < w.setup.vcpus → get_or w.faults v None ≡ Some k → k.looked ≡ Some y → k.backing ≡ None → route_of y k.access ≡ Again → Turned w (retried w t v) t (Vcpu v) false
+again_turn w t v k y s lt h l n r =
+    let p = seeing w.setup.user w.mmu.progress.seq w.past k (fault v w.past) (held_fault w v k s.stands lt h) y l n in
+    let again = again_right p.access p.seen w.past w.setup.user y p.shared p.look_is (subst (λ (a : Aim). route_of y a ≡ Again) p.access_is r) in
+    one_by w (retried w t v) t (Vcpu v) Retry false s lt (retry_stands w t v s.stands lt) refl refl
+    (subst (MayRetry w.past) (sym p.fault_is) (inl again))
+    refl refl (retry_freed t v w.past _ s.new_turn p.fault_is (λ serial held. held))
+    (record { pagings_are = s.calls.pagings_are; none_beyond = s.calls.none_beyond; no_bracket = s.calls.no_bracket }) s.due tt
 
 -- a get of a user page
 

@@ -6,7 +6,6 @@ use Rattle.gm_base.specs.declared.values.Actor.{Actor}
 use Rattle.gm_base.specs.declared.values.Actor.TheVariants.{Vcpu}
 use Rattle.gm_flat.specs.Histories.{same_turn}
 use Rattle.gm_flat.specs.Plays.{is_kick}
-use Rattle.gm_flat.specs.Replay.{flat}
 use Rattle.gm_flat.specs.RightOrder.{is_row, is_vcpu_row}
 use Rattle.gm_flat.specs.declared.entry.Entry.{Entry}
 use Rattle.gm_flat.specs.declared.entry.What.{What}
@@ -29,7 +28,7 @@ pub quiet_more : (e : Entry) (past : List Entry) → loosens e.what ≡ false �
 quiet_more e past l q = or_from (loosens e.what) (same_turn e past && loosened past) l (and_right (same_turn e past) (loosened past) q)
 
 -- the entries of a turn, with what is freed given
-pub turn_by : (w w2 : View) (t : ℕ) (a : Actor) (ws : List What) (kick : Bool) → Settled w t → IsOf w.setup a → Stands w2 → w2.past ≡ onto t a ws w.past → orders_of w2 ≡ orders_of w → EachMay (orders_of w) t a ws w.past → is_row w.setup a ws (flat w.past) ≡ true → is_kick ws ≡ kick → AllFreed (onto t a ws w.past) → CallsAre w2.setup w2.pagings w2.past → SlotsAreDue (orders_of w) (onto t a ws w.past) → IsHereAlone ws w.past → IsNewTurn (t + 1) (onto t a ws w.past) → Turned w w2 t a kick
+pub turn_by : (w w2 : View) (t : ℕ) (a : Actor) (ws : List What) (kick : Bool) → Settled w t → IsOf w.setup a → Stands w2 → w2.past ≡ onto t a ws w.past → orders_of w2 ≡ orders_of w → EachMay (orders_of w) t a ws w.past → is_row w.setup a ws w.past ≡ true → is_kick ws ≡ kick → AllFreed (onto t a ws w.past) → CallsAre w2.setup w2.pagings w2.past → SlotsAreDue (orders_of w) (onto t a ws w.past) → IsHereAlone ws w.past → IsNewTurn (t + 1) (onto t a ws w.past) → Turned w w2 t a kick
 turn_by w w2 t a ws kick s is st p o may row k freed calls due here next =
     let turn : IsTurn (orders_of w) t a ws w.past = record { actor_is = is; new = s.new_turn; row = row; each_may = may; freed = freed } in
     record {
@@ -45,7 +44,7 @@ turn_by w w2 t a ws kick s is st p o may row k freed calls due here next =
     }
 
 -- one entry
-pub one_by : (w w2 : View) (t : ℕ) (a : Actor) (what : What) (kick : Bool) → Settled w t → IsOf w.setup a → Stands w2 → w2.past ≡ by t a what ∷ w.past → orders_of w2 ≡ orders_of w → May (orders_of w) what a w.past → is_row w.setup a (what ∷ []) (flat w.past) ≡ true → is_kick (what ∷ []) ≡ kick → AllFreed (by t a what ∷ w.past) → CallsAre w2.setup w2.pagings w2.past → SlotsAreDue (orders_of w) (by t a what ∷ w.past) → IsHereAlone (what ∷ []) w.past → Turned w w2 t a kick
+pub one_by : (w w2 : View) (t : ℕ) (a : Actor) (what : What) (kick : Bool) → Settled w t → IsOf w.setup a → Stands w2 → w2.past ≡ by t a what ∷ w.past → orders_of w2 ≡ orders_of w → May (orders_of w) what a w.past → is_row w.setup a (what ∷ []) w.past ≡ true → is_kick (what ∷ []) ≡ kick → AllFreed (by t a what ∷ w.past) → CallsAre w2.setup w2.pagings w2.past → SlotsAreDue (orders_of w) (by t a what ∷ w.past) → IsHereAlone (what ∷ []) w.past → Turned w w2 t a kick
 one_by w w2 t a what kick s is st p o may row k freed calls due here = turn_by w w2 t a (what ∷ []) kick s is st p o (may, tt) row k freed calls due here (next_new t)
 
 -- of a vCPU, with nothing to free

@@ -9,7 +9,6 @@ use Rattle.gm_base.specs.declared.script.Turn.{Turn}
 use Rattle.gm_base.specs.declared.script.Turn.TheVariants.{Next, Kick}
 use Rattle.gm_flat.specs.Histories.{same_turn}
 use Rattle.gm_flat.specs.Plays.{IsHere, IsOfTurn, IsPlayed, NoFall, Plays, PlaysTurn as PlayedTurn, actor_of, before_number, turn_at, turn_entries}
-use Rattle.gm_flat.specs.Replay.{flat}
 use Rattle.gm_flat.specs.RightHistory.{Each}
 use Rattle.gm_flat.specs.RightOrder.{is_row}
 use Rattle.gm_flat.specs.declared.entry.Entry.{Entry}
@@ -145,7 +144,7 @@ record Playing (o : Orders) (rev : List Turn) (past : List Entry) : Type 0 where
   here : Here past
 
 some_entries : (o : Orders) (k : ℕ) (a : Actor) (ws : List What) (past : List Entry) → IsTurn o k a ws past → ws ≡ [] → ⊥
-some_entries o k a ws past t e = no_row o.setup a (flat past) (subst (λ (xs : List What). is_row o.setup a xs (flat past) ≡ true) e t.row)
+some_entries o k a ws past t e = no_row o.setup a past (subst (λ (xs : List What). is_row o.setup a xs past ≡ true) e t.row)
 
 taken : (o : Orders) (t : Turn) (ts : List Turn) (kick : Bool) (before past : List Entry) → Playing o ts before → (p : TookTurn o (length ts + 1) (actor_of t) kick before past) → IsPlayed o t p.entries before → Playing o (t ∷ ts) past
 taken o t ts kick before past q p played =

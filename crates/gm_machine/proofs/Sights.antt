@@ -1,6 +1,6 @@
 -- What a look finds: the slot over a page, and where the fault goes from there.
 use Rattle.std.proofs.Common.{◌≡◌, ℕ, ◌/◌, ◌%◌, ◌≤◌, List, [], ◌∷◌, Bool, true, false, not, length, Option, Some, None, IfSome, arith, subst, sym, ◌∙◌, ap, refl, cond, eqb, leb, tests}
-use Rattle.std.proofs.lemmas.Bool.{cond-true, eq-eqb, le-leb, ne_eqb}
+use Rattle.std.proofs.lemmas.Bool.{cond-false, cond-true, eq-eqb, le-leb, ne_eqb}
 use Rattle.std.proofs.lemmas.Nat.Bits.{and_pow, bit_at-lt}
 use Rattle.std.specs.Prelude.{bit_and}
 use Rattle.gm_base.specs.Aim.{Aim, address_of}
@@ -8,12 +8,13 @@ use Rattle.gm_base.specs.Values.{permits}
 use Rattle.gm_base.specs.declared.numbers.TheConstants.{KVM_MEM_READONLY, MOST_USER_PAGES}
 use Rattle.gm_base.specs.declared.values.Kind.TheVariants.{Shared}
 use Rattle.gm_fault.specs.Routes.{has_flag as flag_set, route_of, route_of_shared}
-use Rattle.gm_fault.specs.declared.routes.Route.TheVariants.{Exit, File, User}
+use Rattle.gm_fault.specs.declared.routes.Route.{Route}
+use Rattle.gm_fault.specs.declared.routes.Route.TheVariants.{Again, Exit, File, User}
 use Rattle.gm_flat.specs.FlatState.{Flat, has_flag}
 use Rattle.gm_flat.specs.Histories.{Seen}
 use Rattle.gm_flat.specs.Replay.{flat, flat_at, looked_slot, slot_by}
 use Rattle.gm_flat.specs.RightInstall.{GetBy}
-use Rattle.gm_flat.specs.RightLook.{ExitIsRight, ToMmio, ToUser, id_of, route_seen, shared_route}
+use Rattle.gm_flat.specs.RightLook.{ExitIsRight, ToAgain, ToMmio, ToUser, id_of, is_marked, route_seen, shared_route}
 use Rattle.gm_flat.specs.Slots.{lies_over, slot_by_id, slot_over, user_page_of}
 use Rattle.gm_flat.specs.declared.effect.Backing.TheVariants.{User as InUser}
 use Rattle.gm_flat.specs.declared.effect.Exit.{Exit as Why}
@@ -76,11 +77,40 @@ readonly_same s = by_flags s.flags
     by_flags : (flags : ℕ) → not (eqb (bit_and flags 2) 0) ≡ eqb ((flags / 2) % 2) 1
     by_flags flags = grind (arith, tests, and_pow flags 1, bit_at-lt flags 1)
 
-seen_route : (a : Aim) (seen : Seen) (past : List Entry) (user : ℕ) (y : Looked) → a.kind ≡ Shared → LookIs user past a.page y seen → route_seen a seen past ≡ shared_route a y.slot
+seen_route : (a : Aim) (seen : Seen) (past : List Entry) (user : ℕ) (y : Looked) → a.kind ≡ Shared → LookIs user past a.page y seen → route_seen a seen past ≡ cond (is_marked y.slot) ToAgain (shared_route a y.slot)
 seen_route a seen past user y k l = rw (l.slot_is, l.attr_is, l.attr_shared, k) refl
 
-fault_route : (a : Aim) (y : Looked) → a.kind ≡ Shared → y.attr ≡ Shared → route_of y a ≡ route_of_shared y.slot a
+fault_route : (a : Aim) (y : Looked) → a.kind ≡ Shared → y.attr ≡ Shared → route_of y a ≡ cond (is_marked y.slot) Again (route_of_shared y.slot a)
 fault_route a y k e = rw (e, k) refl
+
+past_mark : (t : Bool) (r s : Route) → (Again ≡ s → ⊥) → cond t Again r ≡ s → (t ≡ false) × (r ≡ s)
+past_mark true r s n e = absurd (n e)
+past_mark false r s n e = (refl, e)
+
+-- a route but the one to try again is of a slot that isn't marked, so it is told by the slot alone
+open_route : (a : Aim) (y : Looked) (to : Route) → a.kind ≡ Shared → y.attr ≡ Shared → (Again ≡ to → ⊥) → route_of y a ≡ to → (is_marked y.slot ≡ false) × (route_of_shared y.slot a ≡ to)
+open_route a y to k e n h = past_mark (is_marked y.slot) (route_of_shared y.slot a) to n (sym (fault_route a y k e) ∙ h)
+
+open_seen : (a : Aim) (seen : Seen) (past : List Entry) (user : ℕ) (y : Looked) → a.kind ≡ Shared → LookIs user past a.page y seen → is_marked y.slot ≡ false → route_seen a seen past ≡ shared_route a y.slot
+open_seen a seen past user y k l m = seen_route a seen past user y k l ∙ cond-false (is_marked y.slot) ToAgain (shared_route a y.slot) m
+
+never_again_by : (t : Bool) (page : ℕ) (why : Why) → cond t (User page) (Exit why) ≡ Again → ⊥
+never_again_by true page why h = cc
+never_again_by false page why h = cc
+
+never_again : (a : Aim) (o : Option SlotView) → route_of_shared o a ≡ Again → ⊥
+never_again a None h = cc
+never_again a (Some s) h = never_again_by (permits (not (flag_set s KVM_MEM_READONLY)) a.op) (user_page_of s a.page) (Mmio (address_of a)) h
+
+mark_again : (t : Bool) (r : Route) → (r ≡ Again → ⊥) → cond t Again r ≡ Again → t ≡ true
+mark_again true r n e = refl
+mark_again false r n e = absurd (n e)
+
+-- a fault that is to be tried again has found a marked slot
+pub again_right : (a : Aim) (seen : Seen) (past : List Entry) (user : ℕ) (y : Looked) → a.kind ≡ Shared → LookIs user past a.page y seen → route_of y a ≡ Again → route_seen a seen past ≡ ToAgain
+again_right a seen past user y k l h =
+    let m : is_marked y.slot ≡ true = mark_again (is_marked y.slot) (route_of_shared y.slot a) (never_again a y.slot) (sym (fault_route a y k l.attr_shared) ∙ h) in
+    seen_route a seen past user y k l ∙ cond-true (is_marked y.slot) ToAgain (shared_route a y.slot) m
 
 exit_step : (frames : ℕ) (why : Why) (a : Aim) (seen : Seen) (past : List Entry) (t : Bool) (page : ℕ) → cond t (User page) (Exit (Mmio (address_of a))) ≡ Exit why → route_seen a seen past ≡ cond t ToUser ToMmio → ExitIsRight frames why a seen past
 exit_step frames why a seen past true page h r = absurd (cc)
@@ -97,7 +127,8 @@ exit_by frames why a seen past (Some s) h r =
 -- an exit is the one of its route
 pub exit_right : (frames : ℕ) (why : Why) (a : Aim) (seen : Seen) (past : List Entry) (user : ℕ) (y : Looked) → a.kind ≡ Shared → LookIs user past a.page y seen → route_of y a ≡ Exit why → ExitIsRight frames why a seen past
 exit_right frames why a seen past user y k l h =
-    exit_by frames why a seen past y.slot (sym (fault_route a y k l.attr_shared) ∙ h) (seen_route a seen past user y k l)
+    let o = open_route a y (Exit why) k l.attr_shared (λ c. cc) h in
+    exit_by frames why a seen past y.slot o.1 (open_seen a seen past user y k l o.0)
 
 get_step : (p page : ℕ) (a : Aim) (seen : Seen) (past : List Entry) (s : SlotView) (t : Bool) → p ≡ user_page_of s a.page → cond t (User p) (Exit (Mmio (address_of a))) ≡ User page → route_seen a seen past ≡ cond t ToUser ToMmio → looked_slot seen past ≡ Some s → GetBy (route_seen a seen past) (InUser page) 0 a seen past
 get_step p page a seen past s true e h r o =
@@ -114,7 +145,8 @@ get_by page a seen past (Some s) h r o =
 -- a get is the user page that the slot gives
 pub get_right : (page : ℕ) (a : Aim) (seen : Seen) (past : List Entry) (user : ℕ) (y : Looked) → a.kind ≡ Shared → LookIs user past a.page y seen → route_of y a ≡ User page → GetBy (route_seen a seen past) (InUser page) 0 a seen past
 get_right page a seen past user y k l h =
-    get_by page a seen past y.slot (sym (fault_route a y k l.attr_shared) ∙ h) (seen_route a seen past user y k l) l.slot_is
+    let o = open_route a y (User page) k l.attr_shared (λ c. cc) h in
+    get_by page a seen past y.slot o.1 (open_seen a seen past user y k l o.0) l.slot_is
 
 no_file_step : (t : Bool) (page file index : ℕ) (why : Why) → cond t (User page) (Exit why) ≡ File file index → ⊥
 no_file_step true page file index why h = cc
@@ -126,4 +158,4 @@ no_file_by a (Some s) file index h = no_file_step (permits (not (flag_set s KVM_
 
 -- a shared access doesn't go to a file
 pub no_file : (a : Aim) (y : Looked) (file index : ℕ) → a.kind ≡ Shared → y.attr ≡ Shared → route_of y a ≡ File file index → ⊥
-no_file a y file index k e h = no_file_by a y.slot file index (sym (fault_route a y k e) ∙ h)
+no_file a y file index k e h = no_file_by a y.slot file index (open_route a y (File file index) k e (λ c. cc) h).1

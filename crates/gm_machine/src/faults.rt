@@ -3,7 +3,7 @@
 ghost use Rattle.std.specs.Prelude.{◌≡◌, ◌+◌, ◌<◌, ◌≤◌, ◌∷◌, Some, None, true, false, length, slice_index_or, not, nat_eq, ◌||◌};
 ghost use Rattle.gm_base.specs.declared.values.Actor.TheVariants.{Vcpu};
 ghost use Rattle.gm_fault.specs.Routes.{route_of};
-ghost use Rattle.gm_fault.specs.declared.routes.Route.TheVariants.{Exit as ToExit, User as ToUser};
+ghost use Rattle.gm_fault.specs.declared.routes.Route.TheVariants.{Again as ToAgain, Exit as ToExit, User as ToUser};
 ghost use Rattle.gm_flat.specs.Calls.{is_readonly};
 ghost use Rattle.gm_flat.specs.Histories.{gone};
 ghost use Rattle.gm_flat.specs.RightLook.{id_of, file_of};
@@ -107,7 +107,7 @@ fn slot_file(slot: Option<SlotView>) -> Option<u32>
     }
 }
 
-// The fault leaves the guest, or gets its user page.
+// The fault leaves the guest, tries again, or gets its user page.
 fn take_route(parts: &mut Parts, turn: u64, v: u32, ticket: Ticket, looked: Looked)
     requires settled { Settled (values_of parts.old) turn }
     requires actor { v < parts.old.setup.vcpus }
@@ -120,6 +120,7 @@ fn take_route(parts: &mut Parts, turn: u64, v: u32, ticket: Ticket, looked: Look
     match decide(&looked, &ticket.access) {
         Route::Exit(why) => exit(parts, turn, v, ticket, looked, why),
         Route::User(page) => get(parts, turn, v, ticket, looked, page),
+        Route::Again => again(parts, turn, v, ticket, looked),
         Route::File(_, _) => unreachable!(),
     }
 }
@@ -143,6 +144,27 @@ fn exit(parts: &mut Parts, turn: u64, v: u32, ticket: Ticket, looked: Looked, wh
         turn,
         actor: Actor::Vcpu(v),
         what: What::Left { why },
+    });
+}
+
+// The look found a slot that is about to go or to move: the access is tried again.
+fn again(parts: &mut Parts, turn: u64, v: u32, ticket: Ticket, looked: Looked)
+    requires settled { Settled (values_of parts.old) turn }
+    requires actor { v < parts.old.setup.vcpus }
+    requires room { IsRoomy parts.old }
+    requires held { slice_index_or parts.old.faults.items v None ≡ Some ticket }
+    requires looked { ticket.looked ≡ Some looked }
+    requires without { ticket.backing ≡ None }
+    requires route { route_of looked ticket.access ≡ ToAgain }
+    ensures { Turned (values_of parts.old) (values_of parts.new) turn (Vcpu v) false }
+{
+    let _ticket = ticket;
+    let _looked = looked;
+    parts.faults[v as usize] = None;
+    parts.log.append(Entry {
+        turn,
+        actor: Actor::Vcpu(v),
+        what: What::Retry,
     });
 }
 
