@@ -48,6 +48,7 @@ pub fn run_fault(order: Order, count: u32) -> u32
         flags: 0,
         file: None,
         index: 0,
+        invalid: false,
     };
     let mut done = 0;
     for step in 0..count {

@@ -7,7 +7,7 @@ ghost use Rattle.gm_speed.specs.declared.slots.TheConstants.{SLOTS};
 
 use crate::order::{LARGEST, Order};
 use gm_base::{COUNTER_LIMIT, NoMemory, PAGE_BYTES, Page, Region};
-use gm_slots::Slots;
+use gm_slots::{Change, Slots};
 use std::alloc::Global;
 
 // How many slots there are, and the pages of each: together one for each index.
@@ -38,8 +38,8 @@ fn made_slots(alloc: Global) -> Result<Slots, NoMemory> {
     for id in 0..SLOTS {
         let region = region_of(id);
         if slots.generation() < COUNTER_LIMIT {
-            if let Ok(change) = slots.judge(&region) {
-                slots.apply(&region, change);
+            if slots.judge(&region) == Ok(Change::Make) {
+                slots.apply(&region, Change::Make);
             }
         }
     }
