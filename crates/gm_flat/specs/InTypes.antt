@@ -104,6 +104,7 @@ abbrev pub IsActorInTypes : Actor → Type 0
 IsActorInTypes (Vcpu v) = IsU64 v
 IsActorInTypes (Caller c) = IsU64 c
 
+-- an entry, and each of a list
 abbrev pub IsEntryInTypes : Entry → Type 0
 IsEntryInTypes e = IsU64 e.turn × IsActorInTypes e.actor × IsWhatInTypes e.what
 

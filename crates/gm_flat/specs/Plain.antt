@@ -1,4 +1,4 @@
--- *plain*: what says nothing more in a history that is right. (This project's own.)
+-- *plain*: a history in which the numbers that tell nothing are as they are in every right one. (This project's own.)
 use Rattle.std.specs.Prelude.{◌≡◌, ℕ, List, [], ◌∷◌, Some, None}
 use Rattle.std.specs.declared.option.Option.{Option}
 use Rattle.gm_base.specs.declared.numbers.TheConstants.{PAGE_BYTES}
@@ -27,10 +27,12 @@ abbrev pub IsPlainIndex : Option ℕ → ℕ → Type 0
 IsPlainIndex None index = index ≡ 0
 IsPlainIndex (Some file) index = Unit {0}
 
+-- of changes only a new slot has such a number
 abbrev pub IsPlainEffect : Effect → Type 0
 IsPlainEffect (Slot slot base pages user flags file index) = IsPlainIndex file index
 IsPlainEffect _ = Unit {0}
 
+-- of entries only exits, gets and changes
 abbrev pub IsPlainWhat : What → Type 0
 IsPlainWhat (Left why) = IsPlainExit why
 IsPlainWhat (Get backing fresh) = IsPlainGet backing fresh
