@@ -143,10 +143,12 @@ impl Machine {
         self.parts.mmu.pending(vcpu)
     }
 
-    /// The history, the oldest entry first. It is right, and turns after it have greater numbers.
+    /// The history, the oldest entry first. It is right, its numbers are within the types of entries, and turns after it
+    /// have greater numbers.
     pub fn history(&self) -> &[Entry]
         ensures history { self.now.past ≡ reverse result.now }
         ensures right { Right self.now.orders self.now.past }
+        ensures in_types { AreInTypes result.now }
         ensures counted { IsNewTurn (self.now.turns + 1) self.now.past }
     {
         self.parts.log.entries()

@@ -1,6 +1,9 @@
-use Rattle.std.proofs.Common.{◌≡◌, ◌∙◌, ap, length, refl, subst, ℕ}
+use Rattle.std.proofs.Common.{◌≡◌, ◌∙◌, ap, length, refl, reverse, subst, ℕ}
 use Rattle.gm_base.specs.Scripts.{Orders}
 use Rattle.gm_base.specs.declared.values.Setup.{Setup}
+use Rattle.gm_determined.proofs.History.{histories_same}
+use Rattle.gm_flat.specs.Plays.{Plays}
+use Rattle.gm_flat.specs.RightHistory.{Right}
 use Rattle.gm_io.specs.Held.{Gains, GainsFront}
 use Rattle.gm_machine.proofs.Playing.{plays_turns}
 use Rattle.gm_script.specs.Grammar.{script_of, Bad}
@@ -15,14 +18,17 @@ returns-in-Ok-write_history-clause-put g c =
     let orders = c.in-Ok-play.ensures.orders in
     let setup : c.setup.result ≡ c.in-Ok.script.orders.setup = c.setup.ensures ∙ ap (λ (o : Orders). o.setup) orders in
     let turns : c.turns.result ≡ length c.in-Ok.script.turns = c.turns.ensures ∙ c.in-Ok-play.ensures.turns in
+    let right : Right c.in-Ok.script.orders (reverse c.history.result.now) = rw (← orders, ← c.history.ensures.history) c.history.ensures.right in
+    let plays : Plays c.in-Ok.script.orders c.in-Ok.script.turns (reverse c.history.result.now) = rw c.history.ensures.history at (plays_turns c.in-Ok.script.orders c.in-Ok.script.turns _ c.in-Ok-play.ensures.plays) in
     record {
       text = history_text c.in-Ok.script.orders.setup c.history.result.now (length c.in-Ok.script.turns);
       due = record {
         script = c.in-Ok.script;
         history = c.history.result.now;
         is_script = c.in-Ok.ensures.ok;
-        right = rw (← orders, ← c.history.ensures.history) c.history.ensures.right;
-        turns = rw c.history.ensures.history at (plays_turns c.in-Ok.script.orders c.in-Ok.script.turns _ c.in-Ok-play.ensures.plays);
+        right = right;
+        turns = plays;
+        only = λ other is_right plays_too. histories_same c.in-Ok.script.orders c.in-Ok.script.turns other (reverse c.history.result.now) is_right right plays_too plays;
         is_text = refl;
       };
       written = subst (λ (n : ℕ). Gains (g.K.Sink.held c.args.sink.now) (g.K.Sink.held c.write_history.new.sink) (history_text c.in-Ok.script.orders.setup c.history.result.now n)) turns
@@ -34,6 +40,8 @@ returns-in-Ok-play-clause-put g c =
     let orders = c.in-Ok-play.ensures.orders in
     let setup : c.setup.result ≡ c.in-Ok.script.orders.setup = c.setup.ensures ∙ ap (λ (o : Orders). o.setup) orders in
     let turns : c.turns.result ≡ length c.in-Ok.script.turns = c.turns.ensures ∙ c.in-Ok-play.ensures.turns in
+    let right : Right c.in-Ok.script.orders (reverse c.history.result.now) = rw (← orders, ← c.history.ensures.history) c.history.ensures.right in
+    let plays : Plays c.in-Ok.script.orders c.in-Ok.script.turns (reverse c.history.result.now) = rw c.history.ensures.history at (plays_turns c.in-Ok.script.orders c.in-Ok.script.turns _ c.in-Ok-play.ensures.plays) in
     record {
       status = Ok;
       text = history_text c.in-Ok.script.orders.setup c.history.result.now (length c.in-Ok.script.turns);
@@ -41,8 +49,9 @@ returns-in-Ok-play-clause-put g c =
         script = c.in-Ok.script;
         history = c.history.result.now;
         is_script = c.in-Ok.ensures.ok;
-        right = rw (← orders, ← c.history.ensures.history) c.history.ensures.right;
-        turns = rw c.history.ensures.history at (plays_turns c.in-Ok.script.orders c.in-Ok.script.turns _ c.in-Ok-play.ensures.plays);
+        right = right;
+        turns = plays;
+        only = λ other is_right plays_too. histories_same c.in-Ok.script.orders c.in-Ok.script.turns other (reverse c.history.result.now) is_right right plays_too plays;
         is_text = refl;
       };
       written = subst (λ (n : ℕ). GainsFront (g.K.Sink.held c.args.sink.now) (g.K.Sink.held c.write_history.new.sink) (history_text c.in-Ok.script.orders.setup c.history.result.now n)) turns
