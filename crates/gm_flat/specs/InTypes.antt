@@ -23,8 +23,8 @@ use Rattle.gm_flat.specs.declared.entry.Entry.{Entry}
 use Rattle.gm_flat.specs.declared.entry.What.{What}
 use Rattle.gm_flat.specs.declared.entry.What.TheVariants.{Miss, Sample, Look, Get, Install, Touch, Left, Judge, Begin, Change, Page, Answer, Free}
 
--- the definitions speak of numbers of any size; those of a program's entries are below 2^64, pages are below 2^52, and words
--- of a page below 512
+-- the definitions speak of numbers of any size; those of a program's entries are below 2^64, pages are below 2^52, and
+-- words of a page below 512
 abbrev pub IsU64 : ℕ → Type 0
 IsU64 n = n < 2 ^ 64
 

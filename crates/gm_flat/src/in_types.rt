@@ -1,5 +1,5 @@
-//! That the numbers of an entry are within their types. The functions here do nothing: their clauses say what the types of
-//! values tell, so that whoever keeps entries can keep that with them.
+//! That the numbers of an entry are within their types. The functions here do nothing: their clauses say what the
+//! types of values tell, so that whoever keeps entries can keep that with them.
 
 ghost use Rattle.gm_base.specs.declared.calls.Ioctl.TheVariants.{Region2};
 ghost use Rattle.gm_flat.specs.InTypes.{IsMaybeU64, IsOpInTypes, IsAimInTypes, IsFolioInTypes, IsBackingInTypes, IsExitInTypes, IsReplyInTypes, IsCallInTypes, IsSpanInTypes, IsEffectInTypes, IsWhatInTypes, IsActorInTypes, IsEntryInTypes};

@@ -1,5 +1,5 @@
--- The text of a history, version 1, as bytes: a touch of a folio has no frame. All else is as in version 2. Version 1 knew no
--- marks; a mark has the same line here. No program of this repository writes it. (This project's own.)
+-- The text of a history, version 1, as bytes: a touch of a folio has no frame. All else is as in version 2. Version 1
+-- knew no marks; a mark has the same line here. No program of this repository writes it. (This project's own.)
 use Rattle.std.specs.Prelude.{ℕ, List, [], ◌∷◌, ◌++◌, codes, length}
 use Rattle.std.specs.Fmt.{decimal}
 use Rattle.gm_base.specs.declared.values.Setup.{Setup}
