@@ -14,7 +14,6 @@ use Rattle.gm_flat.specs.declared.entry.Entry.{Entry}
 use Rattle.gm_flat.specs.declared.entry.What.{What}
 use Rattle.gm_flat.specs.declared.entry.What.TheVariants.{Enter, Flush, Miss, Sample, Look, Get, Install, Retry, Touch, Left, Judge, Begin, Acked, Change, Page, End, Answer, Free, Gone}
 use Rattle.gm_flat.specs.Histories.{is_mark, Fault, NoFault, Faulting, fault, Call, call, Bracket, bracket, gone, done, same_turn, newest_turn, before_turn}
-use Rattle.gm_flat.specs.FlatState.{Flat}
 use Rattle.gm_flat.specs.Replay.{flat}
 use Rattle.gm_flat.specs.Mappings.{pending, inside, flushed}
 use Rattle.gm_flat.specs.Calls.{Plan, Refused, Same, Reads, Short, Bracketed, Paged, plan, mark_of}
@@ -134,7 +133,8 @@ pub record Enters (o : Orders) (v : ℕ) (past : List Entry) : Type 0 where
   pub flushed_before : pending v past ≡ false
   pub waiting : IsWaiting (next_command o (Vcpu v) past)
 
-pub record Leaves (o : Orders) (a : Actor) (past : List Entry) : Type 0 where
+-- an actor is done: no command of it is left, and it hasn't written `gone`
+pub record Departs (o : Orders) (a : Actor) (past : List Entry) : Type 0 where
   pub none_left : next_command o a past ≡ None
   pub once : gone a past ≡ false
 
@@ -200,7 +200,7 @@ StepIs o (Page index folio pages) (Caller c) past = bracket c past ≡ None
 StepIs o End (Caller c) past = Ends (call c past) (bracket c past)
 StepIs o (Answer reply) (Caller c) past = bracket c past ≡ None
 StepIs o (Free folio pages) a past = Unit {0}
-StepIs o Gone a past = Leaves o a past
+StepIs o Gone a past = Departs o a past
 StepIs o _ a past = ⊥
 
 -- the entries of a turn stand together and are of one actor; turn numbers begin at 1 or more and rise

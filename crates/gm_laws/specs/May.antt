@@ -24,7 +24,7 @@ use Rattle.gm_flat.specs.RightInstall.{IsShut, RightGet}
 use Rattle.gm_flat.specs.RightLevel.{LevelIs}
 use Rattle.gm_flat.specs.RightLives.{RightGetAdds, RightPageAdds, FreeIsRight}
 use Rattle.gm_flat.specs.RightCalls.{RightBegin, RightChange, RightPage, RightAnswer}
-use Rattle.gm_flat.specs.RightOrder.{next_command, IsMissed, IsSampled, IsLooked, Enters, Leaves, Judges, Begins, Acks, Changes, Ends}
+use Rattle.gm_flat.specs.RightOrder.{next_command, IsMissed, IsSampled, IsLooked, Enters, Departs, Judges, Begins, Acks, Changes, Ends}
 
 abbrev pub Backs : Backing → Option Named → Type 0
 Backs backing None = ⊥
@@ -77,6 +77,6 @@ May o End (Caller c) past = Ends (call c past) (bracket c past)
 May o (Answer reply) (Caller c) past = (bracket c past ≡ None) × RightAnswer o.setup reply (call c past) past
 May o (Free folio pages) (Vcpu v) past = FreeIsRight folio pages past
 May o (Free folio pages) (Caller c) past = FreeIsRight folio pages past
-May o Gone (Vcpu v) past = Leaves o (Vcpu v) past
-May o Gone (Caller c) past = Leaves o (Caller c) past
+May o Gone (Vcpu v) past = Departs o (Vcpu v) past
+May o Gone (Caller c) past = Departs o (Caller c) past
 May o _ a past = ⊥

@@ -2,7 +2,7 @@
 use Rattle.std.specs.Prelude.{◌≡◌, ◌<◌, ◌≤◌, ℕ, List, length, reverse, ◌⊎◌}
 use Rattle.gm_base.specs.Scripts.{Schedule}
 use Rattle.gm_flat.specs.declared.entry.Entry.{Entry}
-use Rattle.gm_flat.specs.InTypes.{roomless_entries}
+use Rattle.gm_flat.specs.InTypes.{AreInTypes, roomless_entries}
 use Rattle.gm_flat.specs.Plays.{Plays as PlaysAll}
 use Rattle.gm_flat.specs.RightHistory.{Right}
 use Rattle.gm_base.specs.declared.numbers.TheConstants.{MOST_SCRIPT_BYTES}
@@ -14,8 +14,8 @@ use Rattle.gmemrun.specs.declared.status.Status.{Status}
 use Rattle.gmemrun.specs.declared.status.Status.TheVariants.{Ok, BadScript, Usage, ReadFault, WriteFault, NoMemory, TooLong}
 
 -- the bytes form a script, and this is the text of a history, oldest entry first, that is right and plays its turns.
--- It is the only one: each other history that is right and plays these turns differs from it in nothing but the spare
--- room of its spans, which no text shows.
+-- It is the only one: each history that is right and plays these turns differs from it in nothing but the spare room of
+-- its spans, which no text shows. Its numbers are within the types of entries, as one text of one history asks.
 pub record Ran (bytes text : List ℕ) : Type 0 where
   pub script : Schedule
   pub history : List Entry
@@ -23,6 +23,7 @@ pub record Ran (bytes text : List ℕ) : Type 0 where
   pub right : Right script.orders (reverse history)
   pub turns : PlaysAll script.orders script.turns (reverse history)
   pub only : (other : List Entry) → Right script.orders other → PlaysAll script.orders script.turns other → roomless_entries other ≡ roomless_entries (reverse history)
+  pub in_types : AreInTypes history
   pub is_text : text ≡ history_text script.orders.setup history (length script.turns)
 
 -- the bytes form no script, and this is the line with the first bad line and its first cause

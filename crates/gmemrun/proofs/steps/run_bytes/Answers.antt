@@ -29,6 +29,7 @@ returns-in-Ok-write_history-clause-put g c =
         right = right;
         turns = plays;
         only = λ other is_right plays_too. histories_same c.in-Ok.script.orders c.in-Ok.script.turns other (reverse c.history.result.now) is_right right plays_too plays;
+        in_types = c.history.ensures.in_types;
         is_text = refl;
       };
       written = subst (λ (n : ℕ). Gains (g.K.Sink.held c.args.sink.now) (g.K.Sink.held c.write_history.new.sink) (history_text c.in-Ok.script.orders.setup c.history.result.now n)) turns
@@ -52,6 +53,7 @@ returns-in-Ok-play-clause-put g c =
         right = right;
         turns = plays;
         only = λ other is_right plays_too. histories_same c.in-Ok.script.orders c.in-Ok.script.turns other (reverse c.history.result.now) is_right right plays_too plays;
+        in_types = c.history.ensures.in_types;
         is_text = refl;
       };
       written = subst (λ (n : ℕ). GainsFront (g.K.Sink.held c.args.sink.now) (g.K.Sink.held c.write_history.new.sink) (history_text c.in-Ok.script.orders.setup c.history.result.now n)) turns
