@@ -1,15 +1,14 @@
 -- Where too many bytes were taken, or the whole line of a refusal was put, the run says so.
 use Rattle.std.proofs.Common.{◌+◌, ◌++◌, ◌<◌, ◌≤◌, IfSome, List, None, Option, Some, [], ap, arith, length, refl, suc, sym, ℕ, ◌∙◌, ◌∷◌, ◌≡◌}
 use Rattle.std.specs.Io.KnownBytes.{Consumes}
-use Rattle.gm_base.specs.Scripts.{Schedule}
 use Rattle.gm_base.specs.declared.numbers.TheConstants.{MOST_SCRIPT_BYTES}
-use Rattle.gm_io.specs.Held.{Gains, GainsFront}
-use Rattle.gm_script.specs.Grammar.{Verdict, script_of, Good, Bad}
+use Rattle.gm_io.specs.Held.{GainsFront}
+use Rattle.gm_script.specs.Grammar.{script_of, Bad}
 use Rattle.gm_script.specs.declared.error.Cause.{Cause}
 use Rattle.gmemrun.specs.Coming.{PutAll}
-use Rattle.gmemrun.specs.Reading.{ReadAll, TookTooMuch}
+use Rattle.gmemrun.specs.Reading.{TookTooMuch}
 use Rattle.gmemrun.specs.Refusal.{refusal_text}
-use Rattle.gmemrun.specs.Running.{Refused, StepsDue}
+use Rattle.gmemrun.specs.Running.{StepsDue}
 use Rattle.gmemrun.specs.declared.status.Status.TheVariants.{BadScript}
 
 length_joined : (xs ys : List ℕ) → length (xs ++ ys) ≡ length xs + length ys
@@ -52,15 +51,7 @@ pub silent : (P : Type 0) (left held : Option (List ℕ)) → IfSome left (λ by
 silent P None held = tt
 silent P (Some bytes) held = not_refused P bytes held
 
--- no line is due for a script
-good_or_bad : (s : Schedule) (line : ℕ) (cause : Cause) → Good s ≡ Bad line cause → ⊥
-good_or_bad s line cause e = cc
-
-pub no_line : (P : Type 0) (bytes : List ℕ) (s : Schedule) (old new : Option (List ℕ)) → script_of bytes ≡ Good s → IfSome new (λ _. PutLine bytes old new → P)
-no_line P bytes s old None e = tt
-no_line P bytes s old (Some x) e = λ r. absurd (good_or_bad s r.due.line r.due.cause (sym e ∙ r.due.no_script))
-
--- it is due alone
+-- one line alone is due
 one_line : (l m : ℕ) (c d : Cause) → Bad l c ≡ Bad m d → refusal_text l c ≡ refusal_text m d
 one_line l m c d e =
     let n : l ≡ m = cc in
@@ -79,8 +70,3 @@ not_whole P bytes line cause (Some x) (Some y) e g = λ r.
     let both : x ++ g.front ≡ x ++ (g.front ++ g.rest) = sym g.gains ∙ (r.written ∙ ap (λ (l : List ℕ). x ++ l) same) in
     absurd (short_of (length x) (length g.front) (length g.rest) g.short
     (sym (length_joined x g.front) ∙ (ap (λ (l : List ℕ). length l) both ∙ (length_joined x (g.front ++ g.rest) ∙ ap (λ (n : ℕ). length x + n) (length_joined g.front g.rest)))))
-
--- where the line was put, the answer is anyway so
-pub anyway : (P : Type 0) (bytes : List ℕ) (old new : Option (List ℕ)) → P → IfSome new (λ _. PutLine bytes old new → P)
-anyway P bytes old None p = tt
-anyway P bytes old (Some y) p = λ r. p

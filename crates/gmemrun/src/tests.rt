@@ -119,8 +119,12 @@ fn a_bad_line_is_told_after_the_end(rt: HostRuntime) -> Result<(), Fail> {
         (&[], 25, &[0], Status::WriteFault, b""),
     ];
     for (reads, capacity, writes, status, held) in rows {
-        let mut source = MemorySource::new(alloc, b"fly\n", reads).ok().ok_or("memory")?;
-        let mut sink = MemorySink::new(alloc, capacity, writes).ok().ok_or("memory")?;
+        let mut source = MemorySource::new(alloc, b"fly\n", reads)
+            .ok()
+            .ok_or("memory")?;
+        let mut sink = MemorySink::new(alloc, capacity, writes)
+            .ok()
+            .ok_or("memory")?;
         assert_eq!(rt; run_steps(alloc, &mut source, &mut sink), status);
         assert_eq!(rt; sink.held(), held);
     }

@@ -8,7 +8,7 @@ use Rattle.gm_io.specs.Held.{Gains, GainsFront}
 use Rattle.gm_machine.proofs.Playing.{plays_turns}
 use Rattle.gm_script.specs.Grammar.{script_of, Bad}
 use Rattle.gm_text.specs.Text.{history_text}
-use Rattle.gmemrun.proofs.Exactly.{anyway, no_line, not_refused, not_whole}
+use Rattle.gmemrun.proofs.Exactly.{not_refused, not_whole}
 use Rattle.gmemrun.specs.Refusal.{refusal_text}
 use Rattle.gmemrun.specs.declared.status.Status.TheVariants.{BadScript, Ok}
 use Rattle.gmemrun.proofs.steps.run_bytes.Goals as goal
