@@ -127,7 +127,7 @@ pub record InstallsIn (old new : Serving) (leaf : Leaf) : Type 0 where
 still_usable : (past : List Entry) (x : Fault) (user q : ℕ) (k : Ticket) (y : Sampled) (b : Backing) → (p : Holding user q past k y b x) → IsTrueFault past x → stale (Some p.sample) p.access.page past ≡ false → CanUse p.access b (named (flat past) p.access.page)
 still_usable past x user q k y b p t n =
     let r : IsTrueFault past (Faulting p.access p.missed (Some p.sample) (Some p.seen) (Some p.gotten)) = subst (IsTrueFault past) p.fault_is t in
-    elim r [
+    elim r.1 [
       | inl z ↦ absurd (both_ways _ n z)
       | inr z ↦ subst (λ (c : Backing). CanUse p.access c (named (flat past) p.access.page)) p.backing_is z
     ]

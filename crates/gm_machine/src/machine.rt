@@ -4,6 +4,7 @@ ghost use Rattle.std.specs.Prelude.{◌≡◌, ◌+◌, ◌-◌, ◌^◌, ◌<�
 ghost use Rattle.gm_base.specs.Scripts.{IsOf};
 ghost use Rattle.gm_base.specs.declared.values.Actor.TheVariants.{Vcpu, Caller};
 ghost use Rattle.gm_flat.specs.Histories.{gone};
+ghost use Rattle.gm_flat.specs.InTypes.{AreInTypes};
 ghost use Rattle.gm_flat.specs.Mappings.{pending};
 ghost use Rattle.gm_flat.specs.RightHistory.{Right};
 ghost use Rattle.gm_laws.specs.Turns.{IsNewTurn};
