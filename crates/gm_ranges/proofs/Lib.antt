@@ -1,3 +1,4 @@
+pub mod Counting
+pub mod Painting
 pub mod Rising
-pub mod Setting
 pub mod Turning

@@ -1,67 +1,71 @@
--- Rising lists.
-use Rattle.std.proofs.Common.{◌≡◌, ℕ, zero, suc, ◌+◌, ◌<◌, ◌≤◌, List, [], ◌∷◌, ◌++◌, length, get_or, take, drop, arith, ap, ◌⊎◌, inl, inr}
-use Rattle.std.specs.List.Sorted.{IsNonDecreasingBy}
-use Rattle.std.proofs.lemmas.Bool.{cases_order}
-use Rattle.gm_ranges.specs.Runs.{Rises}
+-- Entries whose indexes rise.
+use Rattle.std.proofs.Common.{◌≡◌, ◌≢◌, ℕ, ◌+◌, ◌-◌, ◌<◌, ◌≤◌, List, [], ◌∷◌, length, refl, ap, ◌∙◌, arith, Bool, true, false, cond}
+use Rattle.std.specs.Prelude.{None, Some, IsSome, nat_eq, nat_lt}
+use Rattle.std.proofs.lemmas.Bool.{ne_eqb, eq-eqb}
+use Rattle.std.proofs.lemmas.Bool.Decides.{nat_tests}
+use Rattle.gm_radix.specs.Entries.{lookup, put, without, is_within, Rises}
 
--- a lower start
-pub rises_lower : (low from : ℕ) (xs : List ℕ) → low ≤ from → Rises from xs → Rises low xs
-rises_lower low from [] h r = tt
-rises_lower low from (x ∷ xs) h r = (omega arith, r.1)
+module _ {V : Type 0} where
+  rises_wider : (lo hi low : ℕ) (es : List (ℕ × V)) → low ≤ lo → Rises lo hi es → Rises low hi es
+  rises_wider lo hi low [] p h = tt
+  rises_wider lo hi low (e ∷ es) p h = ((omega arith, h.0.1), h.1)
 
--- each is at least the start
-pub rises_from : (low : ℕ) (xs : List ℕ) (i d : ℕ) → Rises low xs → i < length xs → low ≤ get_or xs i d
-rises_from low [] i d r h = absurd (omega arith)
-rises_from low (x ∷ xs) zero d r h = r.0
-rises_from low (x ∷ xs) (suc i) d r h =
-    let next : x + 1 ≤ get_or xs i d = rises_from (x + 1) xs i d r.1 (omega arith) in
-    omega arith
+  pub rises_put : (index : ℕ) (value : V) (lo hi : ℕ) (es : List (ℕ × V)) → lo ≤ index → index < hi → Rises lo hi es → Rises lo hi (put index value es)
+  rises_put index value lo hi [] p q h = ((p, q), tt)
+  rises_put index value lo hi (e ∷ es) p q h = cases (nat_lt index e.0) (nat_eq e.0 index) refl refl (λ r. rises_put index value (e.0 + 1) hi es r q h.1)
+    where
+      cases : (a b : Bool) → nat_lt index e.0 ≡ a → nat_eq e.0 index ≡ b → (e.0 + 1 ≤ index → Rises (e.0 + 1) hi (put index value es)) → Rises lo hi (cond a ((index, value) ∷ e ∷ es) (cond b ((index, value) ∷ es) (e ∷ put index value es)))
+      cases true b s t r =
+          let before : index + 1 ≤ e.0 = grind (arith, nat_tests) in
+          ((p, q), ((before, h.0.1), h.1))
+      cases false true s t r =
+          let same : e.0 ≡ index = grind (arith, nat_tests) in
+          ((p, q), rises_wider (e.0 + 1) hi (index + 1) es (omega arith) h.1)
+      cases false false s t r =
+          let after : e.0 + 1 ≤ index = grind (arith, nat_tests) in
+          (h.0, r after)
 
--- later ones are greater
-pub rises_at : (low : ℕ) (xs : List ℕ) (i j d : ℕ) → Rises low xs → i < j → j < length xs → get_or xs i d < get_or xs j d
-rises_at low [] i j d r l h = absurd (omega arith)
-rises_at low (x ∷ xs) i zero d r l h = absurd (omega arith)
-rises_at low (x ∷ xs) zero (suc j) d r l h =
-    let next : x + 1 ≤ get_or xs j d = rises_from (x + 1) xs j d r.1 (omega arith) in
-    omega arith
-rises_at low (x ∷ xs) (suc i) (suc j) d r l h = rises_at (x + 1) xs i j d r.1 (omega arith) (omega arith)
+  pub rises_without : (lo hi a b : ℕ) (es : List (ℕ × V)) → Rises a b es → Rises a b (without lo hi es)
+  rises_without lo hi a b [] h = tt
+  rises_without lo hi a b (e ∷ es) h = cases (is_within lo hi e) (rises_without lo hi (e.0 + 1) b es h.1)
+    where
+      cases : (t : Bool) → Rises (e.0 + 1) b (without lo hi es) → Rises a b (cond t (without lo hi es) (e ∷ without lo hi es))
+      cases true q = rises_wider (e.0 + 1) b a (without lo hi es) (omega arith) q
+      cases false q = (h.0, q)
 
--- a front rises
-pub rises_take : (low n : ℕ) (xs : List ℕ) → Rises low xs → Rises low (take n xs)
-rises_take low zero xs r = tt
-rises_take low (suc n) [] r = tt
-rises_take low (suc n) (x ∷ xs) r = (r.0, rises_take (x + 1) n xs r.1)
+  -- an index that is taken away has no value
+  pub lookup_without : (lo hi k : ℕ) (es : List (ℕ × V)) → lo ≤ k → k < hi → lookup k (without lo hi es) ≡ None
+  lookup_without lo hi k [] p q = refl
+  lookup_without lo hi k (e ∷ es) p q = cases (is_within lo hi e) refl (lookup_without lo hi k es p q)
+    where
+      other : is_within lo hi e ≡ false → e.0 ≡ k → ⊥
+      other t s = grind (arith, nat_tests)
 
--- what is left rises, from its first on
-pub rises_drop : (low n : ℕ) (xs : List ℕ) (from : ℕ) → Rises low xs → ((k : ℕ) → n ≤ k → k < length xs → from ≤ get_or xs k 0) → Rises from (drop n xs)
-rises_drop low zero [] from r h = tt
-rises_drop low zero (x ∷ xs) from r h = (h 0 (omega arith) (omega arith), r.1)
-rises_drop low (suc n) [] from r h = tt
-rises_drop low (suc n) (x ∷ xs) from r h =
-    rises_drop (x + 1) n xs from r.1 (λ k l m. h (suc k) (omega arith) (omega arith))
+      cases : (t : Bool) → is_within lo hi e ≡ t → lookup k (without lo hi es) ≡ None → lookup k (cond t (without lo hi es) (e ∷ without lo hi es)) ≡ None
+      cases true t h = h
+      cases false t h = rw (ne_eqb e.0 k (other t)) h
 
--- two rising lists, one after the other
-pub rises_append : (low mid : ℕ) (xs ys : List ℕ) → Rises low xs → ((k : ℕ) → k < length xs → get_or xs k 0 < mid) → low ≤ mid → Rises mid ys → Rises low (xs ++ ys)
-rises_append low mid [] ys r h l s = rises_lower low mid ys l s
-rises_append low mid (x ∷ xs) ys r h l s =
-    let first : x < mid = h 0 (omega arith) in
-    (r.0, rises_append (x + 1) mid xs ys r.1 (λ k m. h (suc k) (omega arith)) (omega arith) s)
+  -- a put leaves the other indexes
+  pub lookup_put_other : (index : ℕ) (value : V) (k : ℕ) (es : List (ℕ × V)) → index ≢ k → lookup k (put index value es) ≡ lookup k es
+  lookup_put_other index value k [] ne = rw (ne_eqb index k ne) refl
+  lookup_put_other index value k (e ∷ es) ne = cases (nat_lt index e.0) (nat_eq e.0 index) refl (lookup_put_other index value k es ne)
+    where
+      cases : (a b : Bool) → nat_eq e.0 index ≡ b → lookup k (put index value es) ≡ lookup k es → lookup k (cond a ((index, value) ∷ e ∷ es) (cond b ((index, value) ∷ es) (e ∷ put index value es))) ≡ lookup k (e ∷ es)
+      cases true b t h = rw (ne_eqb index k ne) refl
+      cases false true t h =
+          let same : e.0 ≡ index = grind (arith, nat_tests) in
+          let apart : e.0 ≢ k = λ s. ne (omega arith) in
+          rw (ne_eqb index k ne, ne_eqb e.0 k apart) refl
+      cases false false t h = ap (λ o. cond (nat_eq e.0 k) (Some e.1) o) h
 
--- a rising list doesn't fall
-pub rises_sorted : (xs : List ℕ) → Rises 0 xs → IsNonDecreasingBy (λ (x : ℕ). x) xs
-rises_sorted xs r i j d l h = order (cases_order i j)
-  where
-    order : ((i ≡ j) ⊎ ((i < j) ⊎ (j < i))) → get_or xs i d ≤ get_or xs j d
-    order (inl e) = le_of (ap (λ k. get_or xs k d) e)
-      where
-        le_of : get_or xs i d ≡ get_or xs j d → get_or xs i d ≤ get_or xs j d
-        le_of same = omega arith
-    order (inr (inl less)) = lt_of (rises_at 0 xs i j d r less h)
-      where
-        lt_of : get_or xs i d < get_or xs j d → get_or xs i d ≤ get_or xs j d
-        lt_of less = omega arith
-    order (inr (inr more)) = absurd (omega arith)
+  pub later : (k : ℕ) (e : ℕ × V) (es : List (ℕ × V)) → IsSome (lookup k es) → IsSome (lookup k (e ∷ es))
+  later k e es s = elim (nat_eq e.0 k) as (λ b. IsSome (cond b (Some e.1) (lookup k es))) [ true ↦ refl | false ↦ s ]
 
--- later ones aren't smaller
-pub rises_at_least : (low : ℕ) (xs : List ℕ) (i j d : ℕ) → Rises low xs → i ≤ j → j < length xs → get_or xs i d ≤ get_or xs j d
-rises_at_least low xs i j d r l h = rises_sorted xs (rises_lower 0 low xs (omega arith) r) i j d l h
+  pub here : (e : ℕ × V) (es : List (ℕ × V)) → IsSome (lookup e.0 (e ∷ es))
+  here e es = rw (eq-eqb e.0 e.0 refl) refl
+
+  -- an index before all others has no value
+  pub lookup_before : (k lo hi : ℕ) (es : List (ℕ × V)) → Rises lo hi es → k < lo → IsSome (lookup k es) → ⊥
+  lookup_before k lo hi [] h p s = absurd cc
+  lookup_before k lo hi (e ∷ es) h p s =
+      lookup_before k (e.0 + 1) hi es h.1 (omega arith) (rw (ne_eqb e.0 k (λ q. omega arith)) at s)

@@ -1,88 +1,90 @@
 -- How edges turn a value.
-use Rattle.std.proofs.Common.{◌≡◌, ℕ, zero, suc, ◌+◌, ◌%◌, ◌<◌, ◌≤◌, List, [], ◌∷◌, ◌++◌, length, get_or, take, drop, Bool, true, false, not, cond, eqb, leb, refl, sym, ◌∙◌, ap, arith, length-take, length-drop, get_or-take, get_or-drop, take-append-drop}
+use Rattle.std.proofs.Common.{◌≡◌, ℕ, ◌+◌, ◌<◌, ◌≤◌, List, [], ◌∷◌, ◌++◌, length, Bool, true, false, not, ◌&&◌, cond, refl, sym, ◌∙◌, ap, arith, ◌⊎◌, inl, inr}
+use Rattle.std.specs.Prelude.{◌%◌, nat_eq, nat_le, nat_lt}
 use Rattle.std.proofs.lemmas.Bool.Decides.{nat_tests}
-use Rattle.gm_ranges.specs.Runs.{turned}
+use Rattle.std.proofs.lemmas.Bool.{cases_lt}
+use Rattle.gm_base.specs.declared.numbers.TheConstants.{PAGE_LIMIT}
+use Rattle.gm_radix.specs.Entries.{count_within, Rises}
+use Rattle.gm_ranges.specs.Runs.{turned, odd, differ, indexes_of, edges_of}
+use Rattle.gm_ranges.proofs.Counting.{count_all}
 
--- the value after so many turns
-abbrev turns : ℕ → Bool → Bool
-turns zero value = value
-turns (suc n) value = turns n (not value)
+pub odd_next : (n : ℕ) → odd (n + 1) ≡ not (odd n)
+odd_next n = grind (arith, nat_tests)
 
--- whether a number is odd, as the code asks it
-abbrev pub odd : ℕ → Bool
-odd n = eqb (n % 2) 1
-
-pub odd_suc : (n : ℕ) → odd (suc n) ≡ not (odd n)
-odd_suc n = grind (arith, nat_tests)
-
--- a choice by an odd number of turns
-abbrev pub turned_by : ℕ → Bool → Bool
+-- a value after so many turns
+abbrev turned_by : ℕ → Bool → Bool
 turned_by n value = cond (odd n) (not value) value
 
-step : (o v : Bool) → cond o (not (not v)) (not v) ≡ cond (not o) (not v) v
-step true true = refl
-step true false = refl
-step false true = refl
-step false false = refl
-
-turns_odd : (n : ℕ) (value : Bool) → turns n value ≡ turned_by n value
-turns_odd zero value = refl
-turns_odd (suc n) value =
-    turns_odd n (not value) ∙ (step (odd n) value ∙ ap (λ (o : Bool). cond o (not value) value) (sym (odd_suc n)))
+-- one turn more
+turn_more : (b : Bool) (n : ℕ) (value : Bool) → turned_by n (cond b (not value) value) ≡ turned_by (cond b (n + 1) n) value
+turn_more false n value = refl
+turn_more true n value = turn (odd n) value ∙ ap (λ (o : Bool). cond o (not value) value) (sym (odd_next n))
+  where
+    turn : (o v : Bool) → cond o (not (not v)) (not v) ≡ cond (not o) (not v) v
+    turn true true = refl
+    turn true false = refl
+    turn false true = refl
+    turn false false = refl
 
 -- edges one after the other
-pub turned_append : (value : Bool) (xs ys : List ℕ) (page : ℕ) → turned value (xs ++ ys) page ≡ turned (turned value xs page) ys page
+turned_append : (value : Bool) (xs ys : List ℕ) (page : ℕ) → turned value (xs ++ ys) page ≡ turned (turned value xs page) ys page
 turned_append value [] ys page = refl
-turned_append value (x ∷ xs) ys page = turned_append (cond (leb x page) (not value) value) xs ys page
+turned_append value (x ∷ xs) ys page = turned_append (cond (nat_le x page) (not value) value) xs ys page
 
--- edges that come later don't turn
-pub turned_later : (value : Bool) (xs : List ℕ) (page : ℕ) → ((k : ℕ) → k < length xs → page < get_or xs k 0) → turned value xs page ≡ value
-turned_later value [] page h = refl
-turned_later value (x ∷ xs) page h =
-    ap (λ (v : Bool). turned v xs page) (skipped value x page (h 0 (omega arith))) ∙ turned_later value xs page (λ k l. h (suc k) (omega arith))
+up_to : (x page : ℕ) → nat_le x page ≡ (nat_le 0 x && nat_lt x (page + 1))
+up_to x page = grind (arith, nat_tests)
+
+-- the edges up to a page turn the value, in whichever order they stand
+turned_count : (value : Bool) (es : List (ℕ × Unit {0})) (page : ℕ) → turned value (indexes_of es) page ≡ turned_by (count_within 0 (page + 1) es) value
+turned_count value [] page = refl
+turned_count value (e ∷ es) page =
+    turned_count (cond (nat_le e.0 page) (not value) value) es page
+    ∙ (ap (λ (b : Bool). turned_by (count_within 0 (page + 1) es) (cond b (not value) value)) (up_to e.0 page) ∙ turn_more (nat_le 0 e.0 && nat_lt e.0 (page + 1)) (count_within 0 (page + 1) es) value)
+
+-- an edge at the limit leaves the pages below it, and makes the others false
+close_below : (limit page : ℕ) (value b : Bool) → page < limit → turned value (cond b (limit ∷ []) []) page ≡ (nat_lt page limit && value)
+close_below limit page value true h = grind (arith, nat_tests)
+close_below limit page value false h = grind (arith, nat_tests)
+
+close_above : (limit page : ℕ) (value : Bool) → limit ≤ page → turned value (cond value (limit ∷ []) []) page ≡ (nat_lt page limit && value)
+close_above limit page true h = grind (arith, nat_tests)
+close_above limit page false h = grind (arith, nat_tests)
+
+-- the value of a page
+pub value_is : (es : List (ℕ × Unit {0})) (page : ℕ) → Rises 0 PAGE_LIMIT es → turned false (edges_of es) page ≡ (nat_lt page PAGE_LIMIT && odd (count_within 0 (page + 1) es))
+value_is es page r =
+    turned_append false (indexes_of es) (cond (odd (length es)) (PAGE_LIMIT ∷ []) []) page
+    ∙ (ap (λ (v : Bool). turned v (cond (odd (length es)) (PAGE_LIMIT ∷ []) []) page) (turned_count false es page ∙ only_odd (odd (count_within 0 (page + 1) es))) ∙ close (cases_lt page PAGE_LIMIT))
   where
-    skipped : (value : Bool) (x page : ℕ) → page < x → cond (leb x page) (not value) value ≡ value
-    skipped value x page h = grind (arith, nat_tests)
+    only_odd : (o : Bool) → cond o true false ≡ o
+    only_odd true = refl
+    only_odd false = refl
 
--- edges up to the page all turn
-pub turned_all : (value : Bool) (xs : List ℕ) (page : ℕ) → ((k : ℕ) → k < length xs → get_or xs k 0 ≤ page) → turned value xs page ≡ turned_by (length xs) value
-turned_all value xs page h = every value xs h ∙ turns_odd (length xs) value
+    close : ((page < PAGE_LIMIT) ⊎ (PAGE_LIMIT ≤ page)) → turned (odd (count_within 0 (page + 1) es)) (cond (odd (length es)) (PAGE_LIMIT ∷ []) []) page ≡ (nat_lt page PAGE_LIMIT && odd (count_within 0 (page + 1) es))
+    close (inl p) = close_below PAGE_LIMIT page (odd (count_within 0 (page + 1) es)) (odd (length es)) p
+    close (inr p) =
+        ap (λ n. turned (odd (count_within 0 (page + 1) es)) (cond (odd n) (PAGE_LIMIT ∷ []) []) page) (sym (count_all (page + 1) 0 PAGE_LIMIT es r (omega arith)))
+        ∙ close_above PAGE_LIMIT page (odd (count_within 0 (page + 1) es)) p
+
+-- an edge where the value differs leads to it
+pub odd_turn : (n : ℕ) (value : Bool) → odd (n + cond (differ (odd n) value) 1 0) ≡ value
+odd_turn n value = cases (odd n) value refl
   where
-    taken : (value : Bool) (x page : ℕ) → x ≤ page → cond (leb x page) (not value) value ≡ not value
-    taken value x page h = grind (arith, nat_tests)
+    same : odd (n + 0) ≡ odd n
+    same = ap odd (omega arith)
 
-    every : (value : Bool) (xs : List ℕ) → ((k : ℕ) → k < length xs → get_or xs k 0 ≤ page) → turned value xs page ≡ turns (length xs) value
-    every value [] h = refl
-    every value (x ∷ xs) h =
-        ap (λ (v : Bool). turned v xs page) (taken value x page (h 0 (omega arith))) ∙ every (not value) xs (λ k l. h (suc k) (omega arith))
+    cases : (o v : Bool) → odd n ≡ o → odd (n + cond (differ o v) 1 0) ≡ v
+    cases true true e = same ∙ e
+    cases true false e = odd_next n ∙ ap not e
+    cases false true e = odd_next n ∙ ap not e
+    cases false false e = same ∙ e
 
-only_odd : (o : Bool) → cond o true false ≡ o
-only_odd true = refl
-only_odd false = refl
+parity : (x y : ℕ) → odd x ≡ odd y → x % 2 ≡ y % 2
+parity x y e = grind (arith, nat_tests)
 
--- a front of edges up to the page
-pub turned_front : (xs : List ℕ) (page n : ℕ) → n ≤ length xs → ((k : ℕ) → k < n → get_or xs k 0 ≤ page) → turned false (take n xs) page ≡ odd n
-turned_front xs page n h before =
-    turned_all false (take n xs) page early ∙ (only_odd (odd (length (take n xs))) ∙ ap odd long)
-  where
-    long : length (take n xs) ≡ n
-    long = omega (arith, length-take n xs)
-
-    early : (k : ℕ) → k < length (take n xs) → get_or (take n xs) k 0 ≤ page
-    early k l =
-        let lt : k < n = omega (arith, long) in
-        rw (get_or-take n xs k 0 lt) (before k lt)
-
--- the value of a page that so many edges stand before or at
-pub turned_odd : (xs : List ℕ) (page n : ℕ) → n ≤ length xs → ((k : ℕ) → k < n → get_or xs k 0 ≤ page) → ((k : ℕ) → n ≤ k → k < length xs → page < get_or xs k 0) → turned false xs page ≡ odd n
-turned_odd xs page n h before after =
-    ap (λ (ys : List ℕ). turned false ys page) (sym (take-append-drop n xs))
-    ∙ (turned_append false (take n xs) (drop n xs) page
-    ∙ (turned_later (turned false (take n xs) page) (drop n xs) page late
-    ∙ front))
-  where
-    late : (k : ℕ) → k < length (drop n xs) → page < get_or (drop n xs) k 0
-    late k l = rw (get_or-drop n xs k 0) (after (n + k) (omega arith) (omega (arith, length-drop n xs)))
-
-    front : turned false (take n xs) page ≡ odd n
-    front = turned_front xs page n h before
+-- two edges that lead to one value, and as many entries less as lie between them
+pub odd_after : (w c d f a b : ℕ) (value : Bool) → w + c ≡ d + f → odd (f + a) ≡ value → odd (c + b) ≡ value → odd ((w + a) + b) ≡ odd d
+odd_after w c d f a b value e p q =
+    let same = parity (f + a) (c + b) (p ∙ sym q) in
+    let rest : ((w + a) + b) % 2 ≡ d % 2 = omega arith in
+    ap (λ n. nat_eq n 1) rest

@@ -1,6 +1,7 @@
 -- A truth value for each page, by the calls that set it and by the pages at which it changes.
-use Rattle.std.specs.Prelude.{◌≡◌, ℕ, ◌+◌, ◌≤◌, List, [], ◌∷◌, Bool, true, false, not, nat_le, None, Some, if◌then◌else◌}
-use Rattle.std.specs.declared.option.Option.{Option}
+use Rattle.std.specs.Prelude.{◌≡◌, ℕ, ◌%◌, List, [], ◌∷◌, ◌++◌, length, Bool, true, false, not, ◌&&◌, nat_eq, nat_le, nat_lt, if◌then◌else◌}
+use Rattle.gm_base.specs.declared.numbers.TheConstants.{PAGE_LIMIT}
+use Rattle.gm_radix.specs.Entries.{put}
 use Rattle.gm_base.specs.Extent.{Extent, holds}
 
 -- a set call: the pages of a span get a value
@@ -40,14 +41,24 @@ AllHave runs span value = (page : ℕ) → holds span page ≡ true → value_at
 abbrev pub SomeDiffer : Runs → Extent → Type 0
 SomeDiffer runs span = (page : ℕ) × (other : ℕ) × (holds span page ≡ true) × (holds span other ≡ true) × (value_at runs page ≡ true) × (value_at runs other ≡ false)
 
--- numbers from low on that rise
-abbrev pub Rises : ℕ → List ℕ → Type 0
-Rises low [] = Unit {0}
-Rises low (edge ∷ edges) = (low ≤ edge) × Rises (edge + 1) edges
+-- whether a number is odd
+abbrev pub odd : ℕ → Bool
+odd n = nat_eq (n % 2) 1
 
--- the edge at a page whose value is to change from one to another, if it does
-abbrev pub edge_between : Bool → Bool → ℕ → Option ℕ
-edge_between true true page = None
-edge_between true false page = Some page
-edge_between false true page = Some page
-edge_between false false page = None
+-- whether two values differ
+abbrev pub differ : Bool → Bool → Bool
+differ true value = not value
+differ false value = value
+
+-- the indexes of a map's entries
+abbrev pub indexes_of : List (ℕ × Unit {0}) → List ℕ
+indexes_of [] = []
+indexes_of (e ∷ entries) = e.0 ∷ indexes_of entries
+
+-- the pages at which the value changes, by the map of those below the limit: from the limit on every page is false
+abbrev pub edges_of : List (ℕ × Unit {0}) → List ℕ
+edges_of entries = indexes_of entries ++ (if odd (length entries) then PAGE_LIMIT ∷ [] else [])
+
+-- a map with an edge at a page, if the value turns there and the page is below the limit
+abbrev pub with_turn : Bool → ℕ → List (ℕ × Unit {0}) → List (ℕ × Unit {0})
+with_turn turns page entries = if turns && nat_lt page PAGE_LIMIT then put page tt entries else entries

@@ -1,88 +1,51 @@
-//! Rising lists of the pages at which a value changes.
+//! Maps of the pages at which a value changes.
 
-ghost use Rattle.std.specs.Prelude.{◌≡◌, ℕ, ◌+◌, ◌-◌, ◌%◌, ◌<◌, ◌≤◌, ◌∷◌, ◌++◌, take, drop, length, slice_index, nat_eq, vec_capacity, vec_len};
-ghost use Rattle.std.specs.Option.{option_to_list};
-ghost use Rattle.gm_ranges.specs.Runs.{Rises, edge_between};
+ghost use Rattle.std.specs.Prelude.{◌≡◌, ℕ, ◌+◌, ◌<◌, ◌≤◌, if◌then◌else◌, false};
+ghost use Rattle.gm_base.specs.declared.numbers.TheConstants.{PAGE_LIMIT};
+ghost use Rattle.gm_base.specs.Extent.{holds};
+ghost use Rattle.gm_radix.specs.Entries.{Rises, count_within};
+ghost use Rattle.gm_ranges.specs.Runs.{differ, edges_of, odd, turned, with_turn};
 
-/// How many edges stand before the page.
-pub(crate) fn count_before(edges: &[u64], page: u64) -> usize
-    requires { Rises 0 edges.now }
-    ensures bound { result ≤ length edges.now }
-    ensures before { (k : ℕ) → k < result → slice_index edges.now k < page }
-    ensures after { (k : ℕ) → result ≤ k → k < length edges.now → page ≤ slice_index edges.now k }
+use gm_base::{PAGE_LIMIT, Span};
+use gm_radix::Radix;
+
+/// The value that the edges before the page lead to.
+pub(crate) fn value_before(edges: &Radix<()>, page: u64) -> bool
+    ensures { result ≡ odd (count_within 0 page edges.now.entries) }
 {
-    edges.partition_point(|edge| *edge < page)
+    edges.count_in(0, page) % 2 == 1
 }
 
-/// How many edges stand at the page or before it.
-pub(crate) fn count_up_to(edges: &[u64], page: u64) -> usize
-    requires { Rises 0 edges.now }
-    ensures bound { result ≤ length edges.now }
-    ensures before { (k : ℕ) → k < result → slice_index edges.now k ≤ page }
-    ensures after { (k : ℕ) → result ≤ k → k < length edges.now → page < slice_index edges.now k }
+/// Puts an edge at a page below the limit that has none, if the value turns there. It takes no memory but what is kept.
+pub(crate) fn turn(edges: &mut Radix<()>, page: u64, turns: bool)
+    requires { 0 < edges.old.spare }
+    ensures entries { edges.new.entries ≡ with_turn turns page edges.old.entries }
+    ensures spare { edges.old.spare ≤ edges.new.spare + 1 }
 {
-    edges.partition_point(|edge| *edge <= page)
-}
-
-/// Whether so many turns lead from false to true.
-pub(crate) fn is_odd(count: usize) -> bool
-    ensures { result ≡ nat_eq (count % 2) 1 }
-{
-    count % 2 == 1
-}
-
-/// Takes the edges from number `first` on and before number `last` away.
-pub(crate) fn remove(edges: &mut Vec<u64>, first: usize, last: usize)
-    requires order { first ≤ last }
-    requires bound { last ≤ vec_len edges.old }
-    ensures items { edges.new.items ≡ take first edges.old.items ++ drop last edges.old.items }
-    ensures len { vec_len edges.new + (last - first) ≡ vec_len edges.old }
-    ensures capacity { vec_capacity edges.new ≡ vec_capacity edges.old }
-{
-    drop(edges.drain(first..last));
-}
-
-/// Puts an edge before that of number `at`. There is room for it.
-pub(crate) fn put(edges: &mut Vec<u64>, at: usize, edge: u64)
-    requires bound { at ≤ vec_len edges.old }
-    requires room { vec_len edges.old < vec_capacity edges.old }
-    ensures items { edges.new.items ≡ take at edges.old.items ++ edge ∷ drop at edges.old.items }
-    ensures len { vec_len edges.new ≡ vec_len edges.old + 1 }
-    ensures capacity { vec_capacity edges.old ≤ vec_capacity edges.new }
-{
-    match edges.insert(at, edge) {
-        Ok(()) => {}
-        Err(_) => unreachable!(),
+    if turns && page < PAGE_LIMIT {
+        edges.insert(page, ());
     }
 }
 
-/// The edge at a page where the value is to change from `before` to `after`, if it does.
-pub(crate) fn edge_at(before: bool, after: bool, page: u64) -> Option<u64>
-    ensures { result ≡ edge_between before after page }
+/// Whether two values differ.
+pub(crate) fn is_turn(from: bool, to: bool) -> bool
+    ensures { result ≡ differ from to }
 {
-    if before == after { None } else { Some(page) }
+    from != to
 }
 
-/// Replaces the edges from number `first` on and before number `last` by at most two. There is room for them.
-pub(crate) fn replace(
-    edges: &mut Vec<u64>,
-    first: usize,
-    last: usize,
-    start: Option<u64>,
-    end: Option<u64>,
-)
-    requires order { first ≤ last }
-    requires bound { last ≤ vec_len edges.old }
-    requires room { vec_len edges.old + 2 ≤ vec_capacity edges.old }
-    ensures items { edges.new.items ≡ take first edges.old.items ++ (option_to_list start ++ (option_to_list end ++ drop last edges.old.items)) }
-    ensures len { vec_len edges.new ≤ vec_len edges.old + 2 }
-    ensures capacity { vec_capacity edges.old ≤ vec_capacity edges.new }
+/// Gives the pages of a span a value. The edges in it go, and at most one stands at each end then.
+pub(crate) fn paint(edges: &mut Radix<()>, span: Span, value: bool)
+    requires rises { Rises 0 PAGE_LIMIT edges.old.entries }
+    requires room { 2 ≤ edges.old.spare }
+    ensures rises { Rises 0 PAGE_LIMIT edges.new.entries }
+    ensures pages { (page : ℕ) → turned false (edges_of edges.new.entries) page ≡ (if holds span page then value else turned false (edges_of edges.old.entries) page) }
+    ensures spare { edges.old.spare ≤ edges.new.spare + 2 }
 {
-    remove(edges, first, last);
-    if let Some(page) = end {
-        put(edges, first, page);
-    }
-    if let Some(page) = start {
-        put(edges, first, page);
-    }
+    let (lo, hi) = (span.lo(), span.hi());
+    let before = value_before(edges, lo);
+    let after = value_before(edges, hi + 1);
+    edges.discard(lo, hi + 1);
+    turn(edges, lo, is_turn(before, value));
+    turn(edges, hi, is_turn(after, value));
 }

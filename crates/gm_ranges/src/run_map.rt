@@ -4,29 +4,32 @@ ghost use Rattle.std.specs.Prelude.{◌≡◌, ℕ, ◌+◌, ◌<◌, ◌≤◌,
 ghost use Rattle.gm_base.specs.Extent.{holds};
 ghost use Rattle.gm_ranges.specs.Runs.{Runs, Call, value_at, Tells, AllHave, SomeDiffer};
 
-use crate::edges::{count_before, count_up_to, edge_at, is_odd, replace};
-use gm_base::{NoMemory, Span};
+use crate::edges::{paint, value_before};
+use gm_base::{NoMemory, PAGE_LIMIT, Span};
+use gm_radix::Radix;
 use std::alloc::Global;
 use std::marker::Model;
 
 /// A truth value for each page: that of the latest call of `set` whose span holds the page, and false where none does.
-#[derive(Debug, Drop)]
+#[derive(Drop)]
 pub struct RunMap {
-    // The pages at which the value changes, in rising order: a run of true begins at each second one.
-    edges: Vec<u64>,
+    // The pages below 2^52 at which the value changes: a run of true begins at each second one.
+    edges: Radix<()>,
     // For how many calls there is room, at two edges each.
     spare: u32,
 }
 
 impl Model for RunMap {
-    ghost use Rattle.std.specs.Prelude.{ℕ, ◌+◌, ◌*◌, ◌≤◌, vec_capacity, vec_len};
-    ghost use Rattle.gm_ranges.specs.Runs.{Runs, Rises};
+    ghost use Rattle.std.specs.Prelude.{◌*◌, ◌≤◌};
+    ghost use Rattle.gm_base.specs.declared.numbers.TheConstants.{PAGE_LIMIT};
+    ghost use Rattle.gm_radix.specs.Entries.{Rises};
+    ghost use Rattle.gm_ranges.specs.Runs.{Runs, edges_of};
 
     ghost Value = { Runs };
 
-    ghost view = { λ m. record { edges = m.edges.items; spare = m.spare } };
+    ghost view = { λ m. record { edges = edges_of m.edges.entries; spare = m.spare } };
 
-    ghost invariant = { λ m. Rises 0 m.edges.items × (vec_len m.edges + 2 * m.spare ≤ vec_capacity m.edges) };
+    ghost invariant = { λ m. Rises 0 PAGE_LIMIT m.edges.entries × (2 * m.spare ≤ m.edges.spare) };
 }
 
 impl RunMap {
@@ -36,12 +39,12 @@ impl RunMap {
         ensures calls { IfOk result (λ map. Tells map []) }
     {
         Ok(RunMap {
-            edges: Vec::new(alloc),
+            edges: Radix::new(alloc),
             spare: 0,
         })
     }
 
-    /// Makes room for at least `n` calls of `set`.
+    /// Makes room for at least `n` calls of `set`. They have at most two edges each, of which the map takes fewer than 2^32.
     pub fn reserve(&mut self, n: u32) -> Result<(), NoMemory>
         ensures same { self.new.edges ≡ self.old.edges }
         ensures spare { OnOk result (n ≤ self.new.spare) }
@@ -49,13 +52,15 @@ impl RunMap {
         ensures err { OnErr result (self.new ≡ self.old) }
     {
         if self.spare < n {
-            self.edges.reserve(2 * n as usize)?;
+            let inserts = n.checked_mul(2).ok_or(NoMemory)?;
+            self.edges.reserve(inserts)?;
             self.spare = n;
         }
         Ok(())
     }
 
-    /// Gives the pages of a span a value. It takes no memory.
+    /// Gives the pages of a span a value. It takes no memory. What it costs is the depth of the tree of edges, for the span's
+    /// ends and for each edge in it.
     pub fn set(&mut self, span: Span, value: bool)
         requires { 0 < self.old.spare }
 
@@ -64,12 +69,7 @@ impl RunMap {
         ensures pages { (page : ℕ) → value_at self.new page ≡ (if holds span page then value else value_at self.old page) }
         ensures spare { self.new.spare + 1 ≡ self.old.spare }
     {
-        let (lo, hi) = (span.lo(), span.hi());
-        let first = count_before(&self.edges, lo);
-        let last = count_up_to(&self.edges, hi);
-        let start = edge_at(is_odd(first), value, lo);
-        let end = edge_at(value, is_odd(last), hi);
-        replace(&mut self.edges, first, last, start, end);
+        paint(&mut self.edges, span, value);
         self.spare -= 1;
     }
 
@@ -77,7 +77,7 @@ impl RunMap {
     pub fn get(&self, page: u64) -> bool
         ensures { result ≡ value_at self.now page }
     {
-        is_odd(count_up_to(&self.edges, page))
+        page < PAGE_LIMIT && value_before(&self.edges, page + 1)
     }
 
     /// The value that every page of the span has. None exactly where two of them differ.
@@ -85,12 +85,11 @@ impl RunMap {
         ensures all { IfSome result (AllHave self.now span) }
         ensures differ { IfNone result (SomeDiffer self.now span) }
     {
-        let first = count_up_to(&self.edges, span.lo());
-        let last = count_before(&self.edges, span.hi());
-        if first < last {
+        let lo = span.lo();
+        if self.edges.has_any(lo + 1, span.hi()) {
             None
         } else {
-            Some(is_odd(first))
+            Some(self.get(lo))
         }
     }
 }

@@ -1,5 +1,5 @@
 -- A whole page written at once.
-use Rattle.std.proofs.Common.{[], ◌≡◌, ◌≢◌, ℕ, ◌+◌, ◌*◌, ◌<◌, ◌≤◌, List, length, get_or, set, refl, sym, ◌∙◌, ap, arith, replicate, take, drop, length-take, length-drop, get_or-take, get_or-drop, ◌⊎◌, inl, inr}
+use Rattle.std.proofs.Common.{[], ◌≡◌, ◌≢◌, ℕ, ◌+◌, ◌*◌, ◌<◌, ◌≤◌, List, length, get_or, set, sym, ◌∙◌, ap, arith, replicate, take, drop, length-take, length-drop, get_or-take, get_or-drop, ◌⊎◌, inl, inr}
 use Rattle.std.specs.Prelude.{None, Some}
 use Rattle.std.specs.declared.option.Option.{Option}
 use Rattle.std.proofs.lemmas.List.{places, get_or_default, set-get_or, same_lists, length-replicate, get_or-replicate}

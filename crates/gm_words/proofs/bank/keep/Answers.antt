@@ -1,6 +1,4 @@
-use Rattle.std.proofs.Common.{◌≡◌, ◌≢◌, ℕ, ◌/◌, None, Some, List, set, sym, ◌∙◌, arith, length-set, get_or-set_same, get_or-set_other}
-use Rattle.std.specs.declared.option.Option.{Option}
-use Rattle.gm_words.specs.Banks.{place_of}
+use Rattle.std.proofs.Common.{◌/◌, None, Some, set, sym, ◌∙◌, arith, length-set, get_or-set_same, get_or-set_other}
 use Rattle.gm_words.proofs.Places.{found, placed-length, placed-room, Adds, adds_kept, adds_same}
 use Rattle.gm_words.proofs.bank.keep.Goals as goal
 
