@@ -32,9 +32,21 @@ fn the_ends_of_the_ranges(rt: HostRuntime) -> Result<(), Fail> {
         gpa: 18_446_744_073_709_551_608,
     };
     for (slot, attr, op, kind, route) in [
-        (slot, Kind::Private, Op::Read, Kind::Private, Route::File(3, 518)),
+        (
+            slot,
+            Kind::Private,
+            Op::Read,
+            Kind::Private,
+            Route::File(3, 518),
+        ),
         (slot, Kind::Shared, Op::Read, Kind::Shared, Route::User(511)),
-        (slot, Kind::Shared, Op::Write(1), Kind::Shared, Route::Exit(mmio)),
+        (
+            slot,
+            Kind::Shared,
+            Op::Write(1),
+            Kind::Shared,
+            Route::Exit(mmio),
+        ),
         (marked, Kind::Shared, Op::Read, Kind::Shared, Route::Again),
         (marked, Kind::Private, Op::Read, Kind::Shared, Route::Again),
     ] {

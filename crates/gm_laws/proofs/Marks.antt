@@ -112,10 +112,12 @@ old_of (NoSlot id) f r a k v m = let x = dropped_gone id r f.slots a m in ((r, x
 old_of (Move id base) f r a k v m = let x = moved_mark id base r f.slots a m v in ((r, x.0, refl, v), λ e. x.1 (sym (same_mark id r.id e)))
 old_of (Shut F) f r a k v m = (cond_P (λ (z : Flat). MemSlot r z.slots → OldSlot r f.slots) (was_made F f.files) (record f { slots = shut_slots F f.slots; files = shut_files F f.files; cache = without_file F f.cache }) f (λ x. shut_mark F r f.slots x v) (λ x. (r, x, refl, v)) m, λ e. none_is (Mark r.id) e)
 old_of (Slot id base pages user flags file index) f r a k v m =
-    let s : SlotView = record { id = id; base = base; pages = pages; user = user; flags = flags; file = file; index = index; invalid = false } in
-    (cond_P (λ (z : Flat). MemSlot r z.slots → OldSlot r f.slots) (slot_fits s) (record f { slots = s ∷ f.slots }) f
-    (λ x. elim x [ inl y ↦ absurd (both_ways r.invalid (ap (λ (z : SlotView). z.invalid) y) v) | inr y ↦ (r, y, refl, v) ])
-    (λ x. (r, x, refl, v)) m, λ e. none_is (Mark r.id) e)
+    let s : SlotView = record { id = id; base = base; pages = pages; user = user; flags = flags; file = file; index = index; invalid = false } in (
+      cond_P (λ (z : Flat). MemSlot r z.slots → OldSlot r f.slots) (slot_fits s) (record f { slots = s ∷ f.slots }) f
+          (λ x. elim x [ inl y ↦ absurd (both_ways r.invalid (ap (λ (z : SlotView). z.invalid) y) v) | inr y ↦ (r, y, refl, v) ])
+          (λ x. (r, x, refl, v)) m,
+      λ e. none_is (Mark r.id) e,
+    )
 old_of (Attr span kind) f r a k v m = ((r, m, refl, v), λ e. none_is (Mark r.id) e)
 old_of (Cut F lo hi) f r a k v m = ((r, m, refl, v), λ e. none_is (Mark r.id) e)
 old_of (File file pages block) f r a k v m = ((r, m, refl, v), λ e. none_is (Mark r.id) e)
@@ -228,10 +230,10 @@ marks_change o t e d past k m f true q r i v =
     elim (marked_mark w.0 r (flat past).slots (subst (λ (z : Effect). MemSlot r (apply z (flat past)).slots) w.1 i)) [
       | inl old ↦ let x = f r old v in (x.0, taking_keep o t (Change e) (Caller d) past x.0 r.id k m (λ n. both_ways (is_mark e) n.1 q) x.1)
       | inr new ↦ (
-          d,
-          subst (λ (n : ℕ). IsTaking o.setup d n (by t (Caller d) (Change e) ∷ past)) (sym new)
-              (subst (λ (z : Effect). IsTaking o.setup d w.0 (by t (Caller d) (Change z) ∷ past)) (sym w.1) (new_taking o.setup t w.0 d past (call d past) (bracket d past) k refl refl (subst (λ (z : Effect). CanChange o.setup z past (call d past) (bracket d past)) w.1 can))),
-        )
+        d,
+        subst (λ (n : ℕ). IsTaking o.setup d n (by t (Caller d) (Change e) ∷ past)) (sym new)
+            (subst (λ (z : Effect). IsTaking o.setup d w.0 (by t (Caller d) (Change z) ∷ past)) (sym w.1) (new_taking o.setup t w.0 d past (call d past) (bracket d past) k refl refl (subst (λ (z : Effect). CanChange o.setup z past (call d past) (bracket d past)) w.1 can))),
+      )
     ]
   where
     is_the_mark : (e : Effect) → is_mark e ≡ true → (id : ℕ) × (e ≡ Mark id)
