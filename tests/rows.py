@@ -5,7 +5,8 @@
 
 A row is a folder of tests/rows: `args` (the words), `stdin` or `repeat` (a byte and how often it comes, then an end),
 `status`, and `stdout`. A row with `folder` reads a folder, whose read fails; one with `full` writes to a sink that
-takes nothing. The last line counts the rows. The exit status is 0 where all passed.
+takes nothing. An example is a script of examples and its history; where that is the line of a refusal the status has
+to be 1, else 0. The last line counts the rows. The exit status is 0 where all passed.
 """
 import os, pathlib, subprocess, sys
 
@@ -42,8 +43,9 @@ def row_result(program, row):
 def example_result(program, script):
     done = run(program, ['steps'], script.read_bytes())
     wanted = script.with_suffix('.history').read_bytes()
-    if done.returncode != 0:
-        return f'status {done.returncode}, not 0'
+    status = 1 if wanted.startswith(b'bad ') else 0
+    if done.returncode != status:
+        return f'status {done.returncode}, not {status}'
     return None if done.stdout == wanted else first_difference(wanted, done.stdout)
 
 def main():
