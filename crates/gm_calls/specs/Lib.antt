@@ -1,0 +1,5 @@
+pub mod Lent
+pub mod Judgements
+pub mod LockSets
+pub mod Rows
+pub mod Steps

@@ -1,0 +1,24 @@
+//! What a call comes to over the state, which locks it needs, and the steps that it takes.
+#![tactic(auto)]
+
+mod attributes;
+mod call;
+mod cuts;
+mod flags;
+mod judged;
+mod judging;
+mod lock_set;
+mod paged;
+mod parts;
+mod regions;
+mod spanned;
+mod words;
+
+pub use call::{Call, Step};
+pub use judged::{Judged, PagePlan};
+pub use judging::judge;
+pub use lock_set::{LockSet, locks};
+pub use parts::Parts;
+
+#[cfg(test)]
+mod tests;
