@@ -1,0 +1,124 @@
+#!/usr/bin/env python3
+"""Checks that what the documents point to is there.
+
+    links.py
+
+The documents are README.md, docs/*.md, examples/README.md and crates/*/README.md. Boxes of code aren't looked at.
+
+- A link without a scheme leads to a file or a folder of the repository, and what follows its `#` is a heading there.
+- A word in backticks counts as a path where it has nothing but letters, digits and `_ . / * + -`, and either begins
+  with a folder at the top, a crate, `./`, `src/`, `specs/`, `proofs/` or `must-fail/`, or ends as a file of the
+  repository does (ENDINGS). NAME and `*` stand for any name. A path is found from the top, from crates/, or from the
+  folder of its document; one that begins within a crate is found in some crate; a name without a folder is that of
+  some file. What is made by a build (out/) is no file of the repository.
+- README.md names each crate of crates.txt.
+- A line has at most 120 columns, but in a table or a box.
+
+The last line counts the links, paths, crates and documents. The exit status is 0 where all passed.
+"""
+import pathlib, re, sys
+
+TOP = pathlib.Path(__file__).resolve().parent.parent
+CRATES = TOP / 'crates'
+ENDINGS = ('.md', '.rt', '.antt', '.edit', '.py', '.txt', '.script', '.history', '.svg')
+IN_A_CRATE = {'src', 'specs', 'proofs', 'must-fail'}
+MOST_COLUMNS = 120
+
+def documents():
+    found = [TOP / 'README.md', *(TOP / 'docs').glob('*.md'), TOP / 'examples' / 'README.md', *CRATES.glob('*/README.md')]
+    return sorted(path for path in found if path.is_file())
+
+def plain_lines(text):
+    """The lines with their numbers, without those of boxes: between fences, or indented by four after an empty line."""
+    fence, before, in_box = None, '', False
+    for number, line in enumerate(text.split('\n'), 1):
+        mark = re.match(r' {0,3}(```+|~~~+)', line)
+        if fence:
+            fence = None if mark and mark.group(1).startswith(fence) else fence
+            continue
+        if mark:
+            fence = mark.group(1)
+            continue
+        in_box = line.startswith('    ') and (in_box or not before.strip())
+        if not in_box:
+            yield number, line
+        before = line
+
+def slug(heading):
+    words = re.sub(r'\[([^\]]*)\]\([^)]*\)', r'\1', heading).replace('`', '').strip().lower()
+    return re.sub(r'[^\w\- ]', '', words).replace(' ', '-')
+
+def anchors(path):
+    seen = {}
+    for _, line in plain_lines(path.read_text()):
+        heading = re.match(r'#{1,6} +(.*?)#*$', line)
+        if heading:
+            name = slug(heading.group(1))
+            seen[name] = seen.get(name, -1) + 1
+            yield f'{name}-{seen[name]}' if seen[name] else name
+
+def links(line):
+    bare = re.sub(r'`[^`]*`', lambda code: '`' * len(code.group()), line)
+    yield from re.findall(r'\]\(<?([^)\s>]+)>?(?: +"[^"]*")?\)', bare)
+    yield from re.findall(r'^ {0,3}\[[^\]]+\]: +(\S+)', bare)
+    yield from re.findall(r'(?:src|href)="([^"]+)"', bare)
+
+def wrong_link(document, link):
+    name, _, anchor = link.partition('#')
+    target = (document.parent / name).resolve() if name else document
+    if not target.is_relative_to(TOP) or not target.exists():
+        return f'the link {link} leads to no file'
+    if anchor and (target.suffix != '.md' or anchor not in anchors(target)):
+        return f'the link {link} leads to no heading'
+    return None
+
+def is_path(word):
+    if not re.fullmatch(r'[\w./*+-]+', word) or not re.search(r'\w', word):
+        return False
+    first, slash, _ = word.removeprefix('./').partition('/')
+    if word.startswith('./') or word.endswith(ENDINGS) and not word.startswith(('/', '.')):
+        return True
+    return bool(slash) and bool(first) and (first in IN_A_CRATE or (TOP / first).is_dir() or (CRATES / first).is_dir())
+
+def paths(line):
+    for code in re.findall(r'`([^`]+)`', line):
+        yield from (word for word in (word.strip(',;:').removesuffix('.') for word in code.split()) if is_path(word))
+
+def is_there(document, path):
+    pattern = re.sub(r'\bNAME\b', '*', path.removeprefix('./').rstrip('/'))
+    folders = [TOP, CRATES, document.parent]
+    if pattern.split('/')[0] in IN_A_CRATE:
+        folders = [document.parent] if document.parent.parent == CRATES else list(CRATES.iterdir())
+    if '/' not in pattern and not path.startswith('./'):
+        pattern = '**/' + pattern
+    found = (place.relative_to(TOP) for folder in folders for place in folder.glob(pattern))
+    return any('out' not in place.parts for place in found)
+
+def results():
+    for document in documents():
+        name, wide = document.relative_to(TOP), []
+        for number, line in plain_lines(document.read_text()):
+            for link in links(line):
+                if not re.match(r'[a-z][a-z+.-]*:', link):
+                    yield f'{name}, line {number}', wrong_link(document, link)
+            for path in paths(line):
+                yield f'{name}, line {number}', None if is_there(document, path) else f'there is no {path}'
+            if len(line) > MOST_COLUMNS and not line.lstrip().startswith('|'):
+                wide.append(str(number))
+        yield f'{name}', f'over {MOST_COLUMNS} columns: lines {", ".join(wide)}' if wide else None
+    page = (TOP / 'README.md').read_text()
+    for line in (TOP / 'crates.txt').read_text().splitlines():
+        crate = re.match(r'\w+', line)
+        if crate:
+            named = re.search(rf'\b{crate.group()}\b', page)
+            yield 'README.md', None if named else f'{crate.group()} of crates.txt is not named'
+
+def main():
+    every = list(results())
+    failed = [(place, wrong) for place, wrong in every if wrong]
+    for place, wrong in failed:
+        print(f'{place}: {wrong}')
+    print(f'{len(every) - len(failed)} passed, {len(failed)} failed')
+    sys.exit(1 if failed else 0)
+
+main()
