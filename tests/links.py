@@ -7,8 +7,8 @@ The documents are README.md, docs/*.md, examples/README.md and crates/*/README.m
 
 - A link without a scheme leads to a file or a folder of the repository, and what follows its `#` is a heading there.
 - A word in backticks counts as a path where it has nothing but letters, digits and `_ . / * + -`, and either begins
-  with a folder at the top, a crate, `./`, `src/`, `specs/`, `proofs/` or `must-fail/`, or ends as a file of the
-  repository does (ENDINGS). NAME and `*` stand for any name. A path is found from the top, from crates/, or from the
+  with a folder at the top (FOLDERS), a crate, `./`, `src/`, `specs/`, `proofs/` or `must-fail/`, or ends as a file of
+  the repository does (ENDINGS). NAME, FILE, FUNCTION and `*` stand for any name. A path is found from the top, from crates/, or from the
   folder of its document; one that begins within a crate is found in some crate; a name without a folder is that of
   some file. What is made by a build (out/) is no file of the repository.
 - README.md names each crate of crates.txt.
@@ -21,6 +21,8 @@ import pathlib, re, sys
 TOP = pathlib.Path(__file__).resolve().parent.parent
 CRATES = TOP / 'crates'
 ENDINGS = ('.md', '.rt', '.antt', '.edit', '.py', '.txt', '.script', '.history', '.svg')
+FOLDERS = {'.ci', 'crates', 'docs', 'examples', 'tests', 'tools'}
+PLACEHOLDERS = r'\b(?:NAME|FILE|FUNCTION)\b'
 IN_A_CRATE = {'src', 'specs', 'proofs', 'must-fail'}
 MOST_COLUMNS = 120
 
@@ -32,7 +34,7 @@ def plain_lines(text):
     """The lines with their numbers, without those of boxes: between fences, or indented by four after an empty line."""
     fence, before, in_box = None, '', False
     for number, line in enumerate(text.split('\n'), 1):
-        mark = re.match(r' {0,3}(```+|~~~+)', line)
+        mark = re.match(r'\s*(```+|~~~+)', line)
         if fence:
             fence = None if mark and mark.group(1).startswith(fence) else fence
             continue
@@ -43,6 +45,18 @@ def plain_lines(text):
         if not in_box:
             yield number, line
         before = line
+
+def blocks(text):
+    """Each paragraph, and each row of a table, with the number of its first line."""
+    block, start, last = [], 0, 0
+    for number, line in [*plain_lines(text), (0, '')]:
+        ends = not line.strip() or line.lstrip().startswith(('|', '#', '- ')) or number != last + 1
+        if block and ends:
+            yield start, '\n'.join(block)
+            block = []
+        if line.strip():
+            block, start = block + [line], start if block else number
+        last = number
 
 def slug(heading):
     words = re.sub(r'\[([^\]]*)\]\([^)]*\)', r'\1', heading).replace('`', '').strip().lower()
@@ -57,11 +71,13 @@ def anchors(path):
             seen[name] = seen.get(name, -1) + 1
             yield f'{name}-{seen[name]}' if seen[name] else name
 
-def links(line):
-    bare = re.sub(r'`[^`]*`', lambda code: '`' * len(code.group()), line)
-    yield from re.findall(r'\]\(<?([^)\s>]+)>?(?: +"[^"]*")?\)', bare)
-    yield from re.findall(r'^ {0,3}\[[^\]]+\]: +(\S+)', bare)
-    yield from re.findall(r'(?:src|href)="([^"]+)"', bare)
+def links(block):
+    """Each link without a scheme, with the number of line ends before it. What stands in backticks is none."""
+    bare = re.sub(r'`[^`]*`', lambda code: re.sub(r'[^\n]', '`', code.group()), block)
+    for form in (r'\]\(<?([^)\s>]+)>?(?:\s+"[^"]*")?\)', r'^ {0,3}\[[^\]]+\]: +(\S+)', r'(?:src|href)="([^"]+)"'):
+        for found in re.finditer(form, bare, re.M):
+            if not re.match(r'[a-z][a-z+.-]*:', found.group(1)):
+                yield bare.count('\n', 0, found.start()), found.group(1)
 
 def wrong_link(document, link):
     name, _, anchor = link.partition('#')
@@ -78,14 +94,18 @@ def is_path(word):
     first, slash, _ = word.removeprefix('./').partition('/')
     if word.startswith('./') or word.endswith(ENDINGS) and not word.startswith(('/', '.')):
         return True
-    return bool(slash) and bool(first) and (first in IN_A_CRATE or (TOP / first).is_dir() or (CRATES / first).is_dir())
+    return bool(slash) and bool(first) and (first in FOLDERS | IN_A_CRATE or (CRATES / first).is_dir())
 
-def paths(line):
-    for code in re.findall(r'`([^`]+)`', line):
-        yield from (word for word in (word.strip(',;:').removesuffix('.') for word in code.split()) if is_path(word))
+def paths(block):
+    """Each path in backticks, with the number of line ends before it."""
+    for code in re.finditer(r'`([^`]+)`', block):
+        for word in code.group(1).split():
+            word = word.strip(',;:').removesuffix('.')
+            if is_path(word):
+                yield block.count('\n', 0, code.start()), word
 
 def is_there(document, path):
-    pattern = re.sub(r'\bNAME\b', '*', path.removeprefix('./').rstrip('/'))
+    pattern = re.sub(PLACEHOLDERS, '*', path.removeprefix('./').rstrip('/'))
     folders = [TOP, CRATES, document.parent]
     if pattern.split('/')[0] in IN_A_CRATE:
         folders = [document.parent] if document.parent.parent == CRATES else list(CRATES.iterdir())
@@ -96,15 +116,14 @@ def is_there(document, path):
 
 def results():
     for document in documents():
-        name, wide = document.relative_to(TOP), []
-        for number, line in plain_lines(document.read_text()):
-            for link in links(line):
-                if not re.match(r'[a-z][a-z+.-]*:', link):
-                    yield f'{name}, line {number}', wrong_link(document, link)
-            for path in paths(line):
-                yield f'{name}, line {number}', None if is_there(document, path) else f'there is no {path}'
-            if len(line) > MOST_COLUMNS and not line.lstrip().startswith('|'):
-                wide.append(str(number))
+        name, text = document.relative_to(TOP), document.read_text()
+        for start, block in blocks(text):
+            for line, link in links(block):
+                yield f'{name}, line {start + line}', wrong_link(document, link)
+            for line, path in paths(block):
+                yield f'{name}, line {start + line}', None if is_there(document, path) else f'there is no {path}'
+        lines = ((number, line) for number, line in plain_lines(text) if not line.lstrip().startswith('|'))
+        wide = [str(number) for number, line in lines if len(line) > MOST_COLUMNS]
         yield f'{name}', f'over {MOST_COLUMNS} columns: lines {", ".join(wide)}' if wide else None
     page = (TOP / 'README.md').read_text()
     for line in (TOP / 'crates.txt').read_text().splitlines():

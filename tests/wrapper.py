@@ -57,6 +57,8 @@ def help_checks():
     yield 'seven statuses in status.rt', len(statuses()) == 7
     for name, number in statuses():
         yield f'--help names {name} with {number}', re.search(rf'^ +{number} +{name}\b', text, re.M) is not None
+    most = re.search(r'MOST_SCRIPT_BYTES: usize = ([\d_]+);', (TOP / 'crates/gm_base/src/numbers.rt').read_text())
+    yield '--help tells the most bytes of a script', f' {most.group(1).replace("_", "")} bytes' in text
     for words in ('gmemrun steps', 'gmemrun --look steps', 'gmemrun --help'):
         yield f'--help tells of {words}', re.search(rf'^ +{words} ', text, re.M) is not None
     scripts = re.findall(r'^ +\./gmemrun .*< (\S+)', text, re.M)
