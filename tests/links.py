@@ -8,15 +8,15 @@ The documents are README.md, docs/*.md, examples/README.md and crates/*/README.m
 - A link without a scheme leads to a file or a folder of the repository, and what follows its `#` is a heading there.
 - A word in backticks counts as a path where it has nothing but letters, digits and `_ . / * + -`, and either begins
   with a folder at the top (FOLDERS), a crate, `./`, `src/`, `specs/`, `proofs/` or `must-fail/`, or ends as a file of
-  the repository does (ENDINGS). NAME, FILE, FUNCTION and `*` stand for any name. A path is found from the top, from crates/, or from the
-  folder of its document; one that begins within a crate is found in some crate; a name without a folder is that of
-  some file. What is made by a build (out/) is no file of the repository.
+  the repository does (ENDINGS). NAME, FILE, FUNCTION and `*` stand for any name. A path is found from the top, from
+  crates/, or from the folder of its document; one that begins within a crate is found in some crate, or in the crate
+  of its document; a name without a folder is that of some file. What a build makes (out/) is no file of the repository.
 - README.md names each crate of crates.txt.
 - A line has at most 120 columns, but in a table or a box.
 
 The last line counts the links, paths, crates and documents. The exit status is 0 where all passed.
 """
-import pathlib, re, sys
+import os, pathlib, re, sys
 
 TOP = pathlib.Path(__file__).resolve().parent.parent
 CRATES = TOP / 'crates'
@@ -26,8 +26,18 @@ PLACEHOLDERS = r'\b(?:NAME|FILE|FUNCTION)\b'
 IN_A_CRATE = {'src', 'specs', 'proofs', 'must-fail'}
 MOST_COLUMNS = 120
 
+def standing():
+    """All files and folders from the top, without what a build makes."""
+    for place, folders, files in os.walk(TOP):
+        folders[:] = [name for name in folders if name not in ('.git', 'out', '__pycache__')]
+        for name in folders + files:
+            yield (pathlib.Path(place) / name).relative_to(TOP).as_posix()
+
+STANDING = set(standing())
+
 def documents():
-    found = [TOP / 'README.md', *(TOP / 'docs').glob('*.md'), TOP / 'examples' / 'README.md', *CRATES.glob('*/README.md')]
+    alone = [TOP / 'README.md', TOP / 'examples' / 'README.md']
+    found = [*alone, *(TOP / 'docs').glob('*.md'), *CRATES.glob('*/README.md')]
     return sorted(path for path in found if path.is_file())
 
 def plain_lines(text):
@@ -81,8 +91,8 @@ def links(block):
 
 def wrong_link(document, link):
     name, _, anchor = link.partition('#')
-    target = (document.parent / name).resolve() if name else document
-    if not target.is_relative_to(TOP) or not target.exists():
+    target = pathlib.Path(os.path.normpath(document.parent / name)) if name else document
+    if target != TOP and os.path.relpath(target, TOP) not in STANDING:
         return f'the link {link} leads to no file'
     if anchor and (target.suffix != '.md' or anchor not in anchors(target)):
         return f'the link {link} leads to no heading'
@@ -91,7 +101,7 @@ def wrong_link(document, link):
 def is_path(word):
     if not re.fullmatch(r'[\w./*+-]+', word) or not re.search(r'\w', word):
         return False
-    first, slash, _ = word.removeprefix('./').partition('/')
+    first, slash, _ = re.sub(r'^\./', '', word).partition('/')
     if word.startswith('./') or word.endswith(ENDINGS) and not word.startswith(('/', '.')):
         return True
     return bool(slash) and bool(first) and (first in FOLDERS | IN_A_CRATE or (CRATES / first).is_dir())
@@ -100,19 +110,20 @@ def paths(block):
     """Each path in backticks, with the number of line ends before it."""
     for code in re.finditer(r'`([^`]+)`', block):
         for word in code.group(1).split():
-            word = word.strip(',;:').removesuffix('.')
+            word = word.strip(',;:').rstrip('.')
             if is_path(word):
                 yield block.count('\n', 0, code.start()), word
 
 def is_there(document, path):
-    pattern = re.sub(PLACEHOLDERS, '*', path.removeprefix('./').rstrip('/'))
-    folders = [TOP, CRATES, document.parent]
+    pattern = re.sub(PLACEHOLDERS, '*', re.sub(r'^\./', '', path).rstrip('/'))
+    own = document.parent.relative_to(TOP).as_posix()
     if pattern.split('/')[0] in IN_A_CRATE:
-        folders = [document.parent] if document.parent.parent == CRATES else list(CRATES.iterdir())
-    if '/' not in pattern and not path.startswith('./'):
-        pattern = '**/' + pattern
-    found = (place.relative_to(TOP) for folder in folders for place in folder.glob(pattern))
-    return any('out' not in place.parts for place in found)
+        froms = [f'{own}/'] if document.parent.parent == CRATES else ['crates/*/']
+    else:
+        froms = ['', 'crates/', f'{own}/'] if '/' in pattern or path.startswith('./') else ['', '**/']
+    form = '|'.join(re.escape(start + pattern) for start in froms)
+    form = form.replace(r'\*\*/', '.*/').replace(r'\*', '[^/]*')
+    return any(re.fullmatch(form, place) for place in STANDING)
 
 def results():
     for document in documents():

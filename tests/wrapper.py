@@ -29,7 +29,7 @@ def write(path, text):
     path.chmod(0o755)
     return path
 
-def run(words, given=b'', program=None, made='none', tried='run=ended status=4'):
+def run(words, given=b'', program=None, is_old=False, made='none', tried='run=ended status=4'):
     """What the wrapper does in a folder where `program` is built, or nothing is: its status, output and notes."""
     with tempfile.TemporaryDirectory() as name:
         folder = pathlib.Path(name)
@@ -42,8 +42,11 @@ def run(words, given=b'', program=None, made='none', tried='run=ended status=4')
             built = folder / 'crates' / 'gmemrun' / 'out' / 'gmemrun'
             built.parent.mkdir()
             shutil.copy(program, built)
-        places = {'PATH': f'{folder / "bin"}:{os.environ["PATH"]}', 'MADE': str(made), 'TRIED': tried}
-        done = subprocess.run([wrapper, *words], input=given, capture_output=True, timeout=60, env={**os.environ, **places})
+            if is_old:
+                os.utime(built, (0, 0))
+        path = f'{folder / "bin"}:{os.environ["PATH"]}'
+        places = {**os.environ, 'PATH': path, 'MADE': str(made), 'TRIED': tried}
+        done = subprocess.run([wrapper, *words], input=given, capture_output=True, timeout=60, env=places)
         return done.returncode, done.stdout.decode(), done.stderr.decode()
 
 def statuses():
@@ -73,6 +76,8 @@ def build_checks(program):
     status, text, notes = run(['steps'], b'given', made=program)
     yield 'what is built first gets its input, and no more is written', (status, text) == (3, 'program: <steps>\ngiven')
     yield 'what is built is told before it is built', -1 < notes.find(said) < notes.find('rt run')
+    status, text, notes = run(['steps'], b'given', program=program, is_old=True, made=program)
+    yield 'what is older than a source is built anew', (status, said in notes) == (3, True)
     status, text, notes = run(['steps'], b'given')
     yield 'where it cannot be built, the status is 70, with no output', (status, text) == (70, '') and said in notes
 
