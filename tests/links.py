@@ -11,6 +11,7 @@ The documents are README.md, docs/*.md, examples/README.md and crates/*/README.m
   the repository does (ENDINGS). NAME, FILE, FUNCTION and `*` stand for any name. A path is found from the top, from
   crates/, or from the folder of its document; one that begins within a crate is found in some crate, or in the crate
   of its document; a name without a folder is that of some file. What a build makes (out/) is no file of the repository.
+  Paths of Linux (LINUX) aren't looked for.
 - README.md names each crate of crates.txt.
 - A line has at most 120 columns, but in a table or a box.
 
@@ -22,6 +23,7 @@ TOP = pathlib.Path(__file__).resolve().parent.parent
 CRATES = TOP / 'crates'
 ENDINGS = ('.md', '.rt', '.antt', '.edit', '.py', '.txt', '.script', '.history', '.svg')
 FOLDERS = {'.ci', 'crates', 'docs', 'examples', 'tests', 'tools'}
+LINUX = 'tools/testing/'
 PLACEHOLDERS = r'\b(?:NAME|FILE|FUNCTION)\b'
 IN_A_CRATE = {'src', 'specs', 'proofs', 'must-fail'}
 MOST_COLUMNS = 120
@@ -99,7 +101,7 @@ def wrong_link(document, link):
     return None
 
 def is_path(word):
-    if not re.fullmatch(r'[\w./*+-]+', word) or not re.search(r'\w', word):
+    if not re.fullmatch(r'[\w./*+-]+', word) or not re.search(r'\w', word) or word.startswith(LINUX):
         return False
     first, slash, _ = re.sub(r'^\./', '', word).partition('/')
     if word.startswith('./') or word.endswith(ENDINGS) and not word.startswith(('/', '.')):
