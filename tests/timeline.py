@@ -611,7 +611,9 @@ def main():
     files = [(path.stem, path.read_bytes()) for path in sorted(EXAMPLES.glob('*.history'))]
     outputs = [(path.parent.name, path.read_bytes()) for path in sorted((TOP / 'tests' / 'rows').glob('*/stdout'))]
     by_hand = [(name, text.lstrip('\n').encode()) for name, text in [*WORKED.items(), *BY_HAND.items()]]
-    histories = [*files, *((name, text) for name, text in outputs if text.startswith(b'gmem-history')), *by_hand]
+    # a script that is refused has one line for an output, and no history
+    written = [(name, text) for name, text in [*files, *outputs] if not text.startswith(b'bad ') and text]
+    histories = [*written, *by_hand]
     histories += [('the history with no wrong line', GOOD.encode()), ('2,000 entries', long_history(2000))]
     results = [(name, history_result(name, text)) for name, text in histories]
     results += [(f'docs/pictures/{name}.svg', picture_result(name)) for name in PICTURED]
