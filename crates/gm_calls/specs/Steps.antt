@@ -18,11 +18,11 @@ after_in_bracket (Some PageStep) = None
 -- the step that follows by the call's row. A call that is answered at its judgement has none; the answering turn of a
 -- call that adds pages is a step of its own.
 abbrev pub after_in_row : Judged → Option Step → Option Step
-after_in_row (Bracket effect) done = after_in_bracket done
-after_in_row (Pages pages) done = Some PageStep
-after_in_row (Refused errno) done = None
-after_in_row (Same answer) done = None
-after_in_row (Short effect answer) done = None
+after_in_row (Bracket effect) last = after_in_bracket last
+after_in_row (Pages pages) last = Some PageStep
+after_in_row (Refused errno) last = None
+after_in_row (Same answer) last = None
+after_in_row (Short effect answer) last = None
 
 -- the step that follows; none where the call is answered
 abbrev pub step_after : Call → Option Step
@@ -36,7 +36,7 @@ is_of_bracket Change = true
 is_of_bracket End = true
 is_of_bracket PageStep = false
 
--- whether a step that was done is one of the call's row
+-- whether a step that was last is one of the call's row
 abbrev pub is_of_row : Judged → Option Step → Bool
 is_of_row judged None = true
 is_of_row (Bracket effect) (Some step) = is_of_bracket step
@@ -53,11 +53,11 @@ is_end (Some step) = false
 is_end None = false
 
 abbrev pub is_at_end : Judged → Option Step → Bool
-is_at_end (Refused errno) done = true
-is_at_end (Same answer) done = true
-is_at_end (Short effect answer) done = true
-is_at_end (Bracket effect) done = is_end done
-is_at_end (Pages pages) done = is_end done
+is_at_end (Refused errno) last = true
+is_at_end (Same answer) last = true
+is_at_end (Short effect answer) last = true
+is_at_end (Bracket effect) last = is_end last
+is_at_end (Pages pages) last = is_end last
 
 -- the last step is one of the row, and the call is answered where it has come to its answer
 pub record IsInOrder (call : Call) : Type 0 where
