@@ -36,7 +36,7 @@ is_of_bracket Change = true
 is_of_bracket End = true
 is_of_bracket PageStep = false
 
--- whether a step that was last is one of the call's row
+-- whether the last step is one of the call's row
 abbrev pub is_of_row : Judged → Option Step → Bool
 is_of_row judged None = true
 is_of_row (Bracket effect) (Some step) = is_of_bracket step
