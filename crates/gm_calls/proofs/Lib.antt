@@ -5,3 +5,4 @@ pub mod Locking
 pub mod Meeting
 pub mod Populating
 pub mod SlotRows
+pub mod Starting

@@ -9,6 +9,7 @@ use gm_slots::Slots;
 use gm_words::Bank;
 
 /// The slots; the files by number, of which a shut one is None; the attributes; user memory; and the setup.
+#[derive(Clone, Copy)]
 pub struct Parts<'a> {
     pub slots: &'a Slots,
     pub files: &'a [Option<File>],
