@@ -23,7 +23,6 @@ fn a_page_and_two_ranges(rt: HostRuntime) -> Result<(), Fail> {
     assert_eq!(rt; file.cached(2), Some(folio(0, 0)));
     assert_eq!(rt; file.next_free(2, 4), Some(3));
     assert_eq!(rt; file.next_free(2, 3), None);
-    assert_eq!(rt; (file.count_in(0, 4), file.count_in(3, 4)), (1, 0));
     assert_eq!(rt; file.bind(0, 2, 1), Ok(()));
     assert_eq!(rt; file.bind(1, 3, 2), Err(Bound { slot: 1 }));
     let mut out = Folios::new(rt.alloc(), 1).ok().ok_or("memory")?;
@@ -36,6 +35,15 @@ fn a_page_and_two_ranges(rt: HostRuntime) -> Result<(), Fail> {
     file.unbind(1);
     assert_eq!(rt; file.bound_in(1, 4, 0), None);
     assert_eq!(rt; (file.pages(), file.is_block()), (4, false));
+    Ok(())
+}
+
+#[test]
+fn cached_indexes_are_counted(rt: HostRuntime) -> Result<(), Fail> {
+    let mut file = File::new(rt.alloc(), 4, false).ok().ok_or("memory")?;
+    file.reserve(1, 0).ok().ok_or("memory")?;
+    file.put(2, folio(0, 0));
+    assert_eq!(rt; (file.count_in(0, 4), file.count_in(3, 4)), (1, 0));
     Ok(())
 }
 
