@@ -1,6 +1,10 @@
+ghost use Rattle.std.specs.Prelude.{◌≡◌, ◌≤◌, IfOk, true};
+ghost use Rattle.gm_attr.specs.Kinds.{is_tracked};
+
 use super::*;
 use crate::blocks::block_span;
 use gm_base::{Kind, PAGE_LIMIT, Page, Span};
+use std::alloc::Global;
 use std::test::Fail;
 
 fn crosses_threads<T: Send + Sync>() {}
@@ -31,13 +35,23 @@ fn a_block_with_one_private_page(rt: HostRuntime) -> Result<(), Fail> {
     Ok(())
 }
 
-#[test]
-fn two_blocks_that_a_call_cuts(rt: HostRuntime) -> Result<(), Fail> {
-    let mut attrs = Attrs::new(rt.alloc()).ok().ok_or("memory")?;
+/// The first two blocks are tracked, every page is shared, and there is room for two calls.
+fn two_blocks(alloc: Global) -> Result<Attrs, Fail>
+    ensures room { IfOk result (λ attrs. 2 ≤ attrs.call_spare) }
+    ensures first { IfOk result (λ attrs. is_tracked attrs 0 ≡ true) }
+    ensures second { IfOk result (λ attrs. is_tracked attrs 1 ≡ true) }
+{
+    let mut attrs = Attrs::new(alloc).ok().ok_or("memory")?;
     attrs.reserve(2).ok().ok_or("memory")?;
     attrs.reserve_blocks(2).ok().ok_or("memory")?;
     attrs.track(block_span(0));
     attrs.track(block_span(1));
+    Ok(attrs)
+}
+
+#[test]
+fn two_blocks_that_a_call_cuts(rt: HostRuntime) -> Result<(), Fail> {
+    let mut attrs = two_blocks(rt.alloc())?;
     attrs.set(span(500, 600)?, Kind::Private);
     assert_eq!(rt; (attrs.mixed(0), attrs.mixed(1)), (true, true));
     attrs.set(span(0, PAGE_LIMIT)?, Kind::Private);

@@ -25,16 +25,24 @@ fn a_page_and_two_ranges(rt: HostRuntime) -> Result<(), Fail> {
     assert_eq!(rt; file.next_free(2, 3), None);
     assert_eq!(rt; file.bind(0, 2, 1), Ok(()));
     assert_eq!(rt; file.bind(1, 3, 2), Err(Bound { slot: 1 }));
+    assert_eq!(rt; file.bound_in(1, 4, 0), Some((0, 2, 1)));
+    file.unbind(1);
+    assert_eq!(rt; file.bound_in(1, 4, 0), None);
+    assert_eq!(rt; (file.pages(), file.is_block()), (4, false));
+    Ok(())
+}
+
+#[test]
+fn a_cut_takes_its_page(rt: HostRuntime) -> Result<(), Fail> {
+    let mut file = File::new(rt.alloc(), 4, false).ok().ok_or("memory")?;
     let mut out = Folios::new(rt.alloc(), 1).ok().ok_or("memory")?;
+    file.reserve(1, 0).ok().ok_or("memory")?;
+    file.put(2, folio(0, 0));
     file.cut(0, 4, &mut out);
     assert_eq!(rt; out.list(), [(2, folio(0, 0))].as_slice());
     assert_eq!(rt; file.cached(2), None);
     out.clear();
     assert_eq!(rt; out.list().len(), 0);
-    assert_eq!(rt; file.bound_in(1, 4, 0), Some((0, 2, 1)));
-    file.unbind(1);
-    assert_eq!(rt; file.bound_in(1, 4, 0), None);
-    assert_eq!(rt; (file.pages(), file.is_block()), (4, false));
     Ok(())
 }
 
