@@ -43,7 +43,7 @@ fn a_bracket_takes_the_leaf(rt: HostRuntime) -> Result<(), Fail> {
 }
 
 #[test]
-fn the_ends_of_the_ranges(rt: HostRuntime) -> Result<(), Fail> {
+fn the_last_page_and_the_last_vcpu(rt: HostRuntime) -> Result<(), Fail> {
     let mut mmu = Mmu::new(rt.alloc(), 16).ok().ok_or("memory")?;
     let page = Page::new(PAGE_LIMIT - 1).ok_or("a page")?;
     let access = Access::new(page, 511, Op::Read, Kind::Shared);
@@ -54,12 +54,19 @@ fn the_ends_of_the_ranges(rt: HostRuntime) -> Result<(), Fail> {
     mmu.fill(15, fill);
     assert_eq!(rt; mmu.serve(15, &access, 0), Some(fill));
     assert_eq!(rt; mmu.serve(14, &access, 0), None);
+    mmu.flush(15);
+    assert_eq!(rt; mmu.serve(15, &access, 0), None);
+    Ok(())
+}
+
+#[test]
+fn the_last_vcpu_is_asked(rt: HostRuntime) -> Result<(), Fail> {
+    let mut mmu = Mmu::new(rt.alloc(), 16).ok().ok_or("memory")?;
     mmu.enter(15);
     assert_eq!(rt; mmu.begin(&[]), 1);
     assert!(rt; mmu.inside(15) && mmu.all_in(1) == Some(15));
     mmu.flush(15);
     mmu.end();
     assert!(rt; mmu.all_in(1) == None && mmu.seq() == 1 && mmu.hull() == None);
-    assert_eq!(rt; mmu.serve(15, &access, 0), None);
     Ok(())
 }
