@@ -1,6 +1,6 @@
 //! Lists of folios that a cut fills.
 
-ghost use Rattle.std.specs.Prelude.{◌≡◌, ◌+◌, ◌≤◌, ◌++◌, [], length, IfOk};
+ghost use Rattle.std.specs.Prelude.{◌≡◌, ◌+◌, ◌<◌, ◌≤◌, ◌++◌, [], length, slice_set, take, IfOk, OnOk};
 ghost use Rattle.gm_radix.specs.Entries.{within, without};
 
 use gm_base::{Folio, NoMemory};
@@ -35,6 +35,19 @@ impl Folios {
         Ok(Folios { items, room })
     }
 
+    /// Makes room for this length. What is in the list stays, and `NoMemory` comes only where there is less room yet.
+    pub fn reserve(&mut self, room: u32) -> Result<(), NoMemory>
+        ensures same { self.new ≡ record self.old { room = self.new.room } }
+        ensures room { OnOk result (room ≤ self.new.room) }
+        ensures not_less { self.old.room ≤ self.new.room }
+    {
+        if self.room < room {
+            self.items.reserve(room as usize - self.items.len())?;
+            self.room = room;
+        }
+        Ok(())
+    }
+
     /// The folios with their indexes.
     pub fn list(&self) -> &[(u64, Folio)]
         ensures { result.now ≡ self.now.list }
@@ -47,6 +60,21 @@ impl Folios {
         ensures { self.new ≡ record self.old { list = [] } }
     {
         self.items.clear();
+    }
+
+    /// Puts a folio with its index in place number `at`, from 0 on, instead of what is there.
+    pub fn put(&mut self, at: usize, index: u64, folio: Folio)
+        requires { at < length self.old.list }
+        ensures { self.new ≡ record self.old { list = slice_set self.old.list at (index, folio) } }
+    {
+        self.items[at] = (index, folio);
+    }
+
+    /// Keeps the first so many and drops the rest.
+    pub fn truncate(&mut self, count: usize)
+        ensures { self.new ≡ record self.old { list = take count self.old.list } }
+    {
+        self.items.truncate(count);
     }
 
     /// Moves the entries of a cache whose index is at least `lo` and below `hi` to the end of the list.

@@ -31,6 +31,8 @@ pub mod RightIsRuled
 mod Stands
 pub mod Readings
 pub mod MoreReadings
+pub mod OpenBrackets
+pub mod Counted
 pub mod WrongBodies
 pub mod Fronts
 pub mod Parts

@@ -107,7 +107,7 @@ all_fills_are v m (e ∷ past) = go (all_fills_are v m past)
         ))
 
 -- count
-open_count : (o : Orders) (past : List Entry) → Good o.setup.callers past → (c : ℕ) → Ends (call c past) (bracket c past) → 1 ≤ count past
+pub open_count : (o : Orders) (past : List Entry) → Good o.setup.callers past → (c : ℕ) → Ends (call c past) (bracket c past) → 1 ≤ count past
 open_count o past g c m = go (call c past) (bracket c past) refl m
   where
     go : (x : Option Call) (b : Option Bracket) → bracket c past ≡ b → Ends x b → 1 ≤ count past

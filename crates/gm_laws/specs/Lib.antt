@@ -1,6 +1,7 @@
 pub mod BoundRanges
 pub mod Contents
 pub mod Conversion
+pub mod Counting
 pub mod FlushPending
 pub mod Fronts
 pub mod HeldPage

@@ -9,7 +9,6 @@ use Rattle.gm_base.specs.declared.values.Errno.TheVariants.{Exist, Inval}
 use Rattle.gm_flat.specs.declared.views.SlotView.{SlotView}
 use Rattle.gm_flat.specs.Slots.{slot_by_id}
 use Rattle.gm_flat.specs.Effects.{dropped, moved}
-use Rattle.gm_flat.specs.RightLook.{is_marked}
 use Rattle.gm_flat.specs.Calls.{is_paged, page_of, wants_file, has_memfd, differs, meets_slot}
 use Rattle.gm_slots.specs.declared.change.Change.{Change}
 use Rattle.gm_slots.specs.declared.change.Change.TheVariants.{Nothing, Make, Delete, Move}
@@ -62,13 +61,6 @@ made_slot r = record {
   index = if wants_file r then page_of r.offset else 0;
   invalid = false;
 }
-
--- whether the slot, where it is to go or to move, was marked before
-abbrev pub is_ready : Change → Option SlotView → Bool
-is_ready Nothing slot = true
-is_ready Make slot = true
-is_ready Delete slot = is_marked slot
-is_ready Move slot = is_marked slot
 
 -- the slots after a change
 abbrev pub slots_after : Change → Region → List SlotView → List SlotView

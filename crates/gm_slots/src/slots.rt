@@ -7,7 +7,7 @@ ghost use Rattle.gm_flat.specs.RightLook.{is_marked};
 ghost use Rattle.gm_flat.specs.FlatState.{has_flag};
 ghost use Rattle.gm_flat.specs.Calls.{page_of, differs, meets_slot, same_truth};
 ghost use Rattle.gm_flat.specs.Effects.{dropped, marked, shut_slots};
-ghost use Rattle.gm_slots.specs.Changes.{SlotList, Passed, change_of, new_change, old_change, made_slot, slots_after, rise_by, is_ready};
+ghost use Rattle.gm_slots.specs.Changes.{SlotList, Passed, change_of, new_change, old_change, made_slot, slots_after, rise_by};
 ghost use Rattle.gm_slots.specs.Good.{Good, ByBase};
 
 use crate::change::Change;
@@ -122,7 +122,6 @@ impl Slots {
     /// Marks a slot, since it is to go or to move. It takes no memory. The generation rises by one.
     pub fn mark(&mut self, slot: u32)
         requires exists { IsSome (slot_by_id self.old.slots slot) }
-        requires unmarked { is_marked (slot_by_id self.old.slots slot) ≡ false }
         requires generation { self.old.generation < COUNTER_LIMIT }
         ensures slots { self.new.slots ≡ marked slot self.old.slots }
         ensures generation { self.new.generation ≡ self.old.generation + 1 }
@@ -132,12 +131,11 @@ impl Slots {
         self.changes += 1;
     }
 
-    /// Makes the change that `judge` answers for a call. A slot that goes or moves was marked; moved, it isn't. It takes no
-    /// memory. The generation rises by one, but for `Nothing`.
+    /// Makes the change that `judge` answers for a call. A slot that moves isn't marked then. It takes no memory. The
+    /// generation rises by one, but for `Nothing`.
     pub fn apply(&mut self, region: &Region, change: Change)
         requires passed { Passed region.now }
         requires judged { change_of region.now self.old.slots ≡ Ok change }
-        requires ready { is_ready change (slot_by_id self.old.slots region.now.slot) ≡ true }
         requires generation { self.old.generation < COUNTER_LIMIT }
         ensures slots { self.new.slots ≡ slots_after change region.now self.old.slots }
         ensures generation { self.new.generation ≡ self.old.generation + rise_by change }
