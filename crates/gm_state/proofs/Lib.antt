@@ -1,0 +1,10 @@
+pub mod Accessed
+pub mod Alike
+pub mod Effecting
+pub mod Lending
+pub mod PagesAdded
+pub mod PlannedReads
+pub mod Promises
+pub mod Rooming
+pub mod SlotMarks
+pub mod Storing

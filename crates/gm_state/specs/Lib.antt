@@ -1,0 +1,9 @@
+pub mod Accessing
+pub mod Applying
+pub mod HasMoreRoom
+pub mod Holding
+pub mod Marked
+pub mod Paging
+pub mod Promised
+pub mod Stand
+pub mod Views

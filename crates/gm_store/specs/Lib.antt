@@ -1,0 +1,9 @@
+pub mod Added
+pub mod Asked
+pub mod Bindings
+pub mod Frees
+pub mod Left
+pub mod Opened
+pub mod Rooms
+pub mod Stored
+pub mod Views
