@@ -1,0 +1,13 @@
+pub mod Lists
+pub mod Stays
+pub mod Moves
+pub mod Answering
+pub mod Stepping
+pub mod Unmarked
+pub mod BracketTurns
+pub mod PageTurns
+pub mod Waits
+pub mod Replies
+pub mod Turning
+pub mod Added
+pub mod NextCommand

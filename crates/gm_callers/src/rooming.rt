@@ -1,0 +1,67 @@
+//! Room for a caller's next turn.
+
+ghost use Rattle.std.specs.Prelude.{◌≡◌, ◌<◌, ◌≤◌, IfOk, OnErr, OnOk};
+ghost use Rattle.gm_callers.specs.Rooming.{IsEmptyOrRoomy, reserved, trimmed};
+
+use crate::caller::{Caller, InProgress};
+use gm_base::{NoMemory, SLOT_IDS};
+use gm_flat::Spans;
+use std::alloc::Global;
+
+/// How many spans a list of this length has room for at most.
+fn room_for(length: usize) -> u32
+    ensures fits { length < 4294967296 → result ≡ length }
+    ensures most { result ≤ length }
+    ensures full { 4294967296 ≤ length → result ≡ 4294967295 }
+{
+    if length < 4294967296 {
+        length as u32
+    } else {
+        u32::MAX
+    }
+}
+
+/// The same spans, with no more room than they need.
+fn fitted(alloc: Global, spans: &Spans) -> Result<Spans, NoMemory>
+    ensures list { IfOk result (λ copy. copy.list ≡ spans.now.list) }
+    ensures spare { IfOk result (λ copy. copy.spare ≡ 0) }
+{
+    let list = spans.list();
+    let mut copy = Spans::new(alloc, room_for(list.len()))?;
+    for span in list {
+        copy.push(*span)?;
+    }
+    Ok(copy)
+}
+
+/// Where a bracket hasn't begun, its spans have no more room than they need: an entry keeps no spare memory.
+fn trim(alloc: Global, x: &mut InProgress) -> Result<(), NoMemory>
+    ensures ok { OnOk result (x.new ≡ trimmed x.old) }
+    ensures err { OnErr result (x.new ≡ x.old) }
+{
+    if x.call.done.is_none() {
+        if let Some(spans) = &x.spans {
+            let copy = fitted(alloc, spans)?;
+            x.spans = Some(copy);
+        }
+    }
+    Ok(())
+}
+
+/// Makes room for the caller's next turn: for the judgement of its next call, or for the entry of its bracket.
+pub fn make_room(alloc: Global, caller: &mut Caller) -> Result<(), NoMemory>
+    requires { IsEmptyOrRoomy caller.old.spans }
+    ensures ok { OnOk result (caller.new ≡ reserved caller.old) }
+    ensures err { OnErr result (caller.new ≡ caller.old) }
+{
+    match &mut caller.call {
+        Some(x) => trim(alloc, x),
+        None => {
+            if caller.spans.is_none() {
+                let spans = Spans::new(alloc, SLOT_IDS)?;
+                caller.spans = Some(spans);
+            }
+            Ok(())
+        }
+    }
+}

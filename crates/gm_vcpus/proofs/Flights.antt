@@ -1,0 +1,104 @@
+-- What a ticket tells of its fault.
+use Rattle.std.proofs.Common.{◌≡◌, ℕ, ◌<◌, ◌≤◌, List, length, Option, Some, None, subst, sym, refl, ◌∙◌}
+use Rattle.gm_base.specs.Aim.{Aim}
+use Rattle.gm_base.specs.declared.values.Setup.{Setup}
+use Rattle.gm_fault.specs.declared.ticket.Ticket.{Ticket}
+use Rattle.gm_flat.specs.Histories.{Fault, Faulting, NoFault, Gotten, Seen, fault}
+use Rattle.gm_flat.specs.declared.effect.Backing.{Backing}
+use Rattle.gm_flat.specs.declared.entry.Entry.{Entry}
+use Rattle.gm_flat.specs.declared.views.Looked.{Looked}
+use Rattle.gm_flat.specs.declared.views.Sampled.{Sampled}
+use Rattle.gm_vcpus.specs.Stages.{stage_by, stage_of}
+use Rattle.gm_vcpus.specs.Stand.{FaultIs, LookIs, SampleIs, StageIs, TicketIs, VcpusStand}
+use Rattle.gm_vcpus.specs.Vcpus.{no_vcpu, vcpu_at}
+use Rattle.gm_vcpus.specs.declared.stage.Stage.{Stage}
+use Rattle.gm_vcpus.specs.declared.stage.Stage.TheVariants as at
+use Rattle.gm_vcpus.specs.declared.vcpu.Vcpu.{Vcpu}
+
+-- a vCPU has no fault in flight
+pub no_fault : {s : Setup} {vs : List Vcpu} {past : List Entry} (v : ℕ) → VcpusStand s vs past → v < s.vcpus → (vcpu_at vs v).fault ≡ None → fault v past ≡ NoFault
+no_fault {s = s} {vs = vs} {past = past} v st lt e = none_by s.user (vcpu_at vs v).fault (fault v past) past e (st.each v no_vcpu lt).fault_is
+  where
+    none_by : (user : ℕ) (o : Option Ticket) (x : Fault) (past : List Entry) → o ≡ None → FaultIs user o x past → x ≡ NoFault
+    none_by user None NoFault past e h = refl
+    none_by user None (Faulting a missed s l g) past e h = absurd h
+    none_by user (Some k) x past e h = absurd (cc)
+
+-- a fault that has only missed
+pub record FaultMissed (v : ℕ) (k : Ticket) (past : List Entry) : Type 0 where
+  pub missed : ℕ
+  pub fault_is : fault v past ≡ Faulting k.access missed None None None
+  pub so_far : missed ≤ length past
+  pub not_sampled : k.sampled ≡ None
+  pub not_looked : k.looked ≡ None
+  pub not_got : k.backing ≡ None
+
+-- one that has sampled and not looked yet
+pub record FaultSampled (v : ℕ) (k : Ticket) (x : Sampled) (past : List Entry) : Type 0 where
+  pub missed : ℕ
+  pub sample : ℕ
+  pub fault_is : fault v past ≡ Faulting k.access missed (Some sample) None None
+  pub so_far : missed ≤ length past
+  pub sampled : k.sampled ≡ Some x
+  pub not_looked : k.looked ≡ None
+  pub not_got : k.backing ≡ None
+  pub sample_is : SampleIs x sample missed past
+
+-- one that has looked and got nothing yet
+pub record FaultLooked (user v : ℕ) (k : Ticket) (x : Sampled) (y : Looked) (past : List Entry) : Type 0 where
+  pub missed : ℕ
+  pub sample : ℕ
+  pub seen : Seen
+  pub fault_is : fault v past ≡ Faulting k.access missed (Some sample) (Some seen) None
+  pub so_far : missed ≤ length past
+  pub sampled : k.sampled ≡ Some x
+  pub looked : k.looked ≡ Some y
+  pub not_got : k.backing ≡ None
+  pub sample_is : SampleIs x sample missed past
+  pub look_is : LookIs user k.access.page sample y seen past
+
+-- one that has got its backing
+pub record FaultGot (user v : ℕ) (k : Ticket) (x : Sampled) (y : Looked) (b : Backing) (past : List Entry) : Type 0 where
+  pub missed : ℕ
+  pub sample : ℕ
+  pub seen : Seen
+  pub gotten : Gotten
+  pub fault_is : fault v past ≡ Faulting k.access missed (Some sample) (Some seen) (Some gotten)
+  pub so_far : missed ≤ length past
+  pub sample_is : SampleIs x sample missed past
+  pub look_is : LookIs user k.access.page sample y seen past
+  pub backing_is : gotten.backing ≡ b
+
+-- by the stage
+
+abbrev pub Flies : ℕ → ℕ → Ticket → Stage → List Entry → Type 0
+Flies user v k at.Missed past = FaultMissed v k past
+Flies user v k (at.Sampled x) past = FaultSampled v k x past
+Flies user v k (at.Looked x y) past = FaultLooked user v k x y past
+Flies user v k (at.Got x y b) past = FaultGot user v k x y b past
+
+by_stage : (user v : ℕ) (k : Ticket) (missed : ℕ) (x : Option Sampled) (y : Option Looked) (b : Option Backing) (s : Option ℕ) (l : Option Seen) (g : Option Gotten) (past : List Entry) → k.sampled ≡ x → k.looked ≡ y → k.backing ≡ b → fault v past ≡ Faulting k.access missed s l g → missed ≤ length past → StageIs user k.access.page missed x y b s l g past → Flies user v k (stage_by x y b) past
+by_stage user v k missed None None None None None None past ex ey eb f le h = record { missed = missed; fault_is = f; so_far = le; not_sampled = ex; not_looked = ey; not_got = eb }
+by_stage user v k missed (Some x) None None (Some s) None None past ex ey eb f le h = record { missed = missed; sample = s; fault_is = f; so_far = le; sampled = ex; not_looked = ey; not_got = eb; sample_is = h }
+by_stage user v k missed (Some x) (Some y) None (Some s) (Some l) None past ex ey eb f le h = record { missed = missed; sample = s; seen = l; fault_is = f; so_far = le; sampled = ex; looked = ey; not_got = eb; sample_is = h.0; look_is = h.1 }
+by_stage user v k missed (Some x) (Some y) (Some b) (Some s) (Some l) (Some g) past ex ey eb f le h = record { missed = missed; sample = s; seen = l; gotten = g; fault_is = f; so_far = le; sample_is = h.0; look_is = h.1; backing_is = h.2 }
+by_stage user v k missed x y b s l g past ex ey eb f le h = absurd h
+
+by_fault : (user v : ℕ) (k : Ticket) (o : Option Ticket) (x : Fault) (past : List Entry) → o ≡ Some k → fault v past ≡ x → FaultIs user o x past → Flies user v k (stage_of k) past
+by_fault user v k None x past e f h = absurd (cc)
+by_fault user v k (Some j) NoFault past e f h = absurd h
+by_fault user v k (Some j) (Faulting a missed s l g) past e f h =
+    let t : TicketIs user k a missed s l g past = subst (λ (i : Ticket). TicketIs user i a missed s l g past) (same j k e) h in
+    by_stage user v k missed k.sampled k.looked k.backing s l g past refl refl refl (f ∙ access_in (sym t.access_is)) t.so_far
+    (subst (λ (b : Aim). StageIs user b.page missed k.sampled k.looked k.backing s l g past) (sym t.access_is) t.stage_is)
+  where
+    same : (a b : Ticket) → Some a ≡ Some b → a ≡ b
+    same a b e = cc
+
+    access_in : (p : a ≡ k.access) → Faulting a missed s l g ≡ Faulting k.access missed s l g
+    access_in p = cc
+
+-- a fault in flight, by how far it is
+pub flight : {s : Setup} {vs : List Vcpu} {past : List Entry} (v : ℕ) (k : Ticket) (t : Stage) → VcpusStand s vs past → v < s.vcpus → (vcpu_at vs v).fault ≡ Some k → stage_of k ≡ t → Flies s.user v k t past
+flight {s = s} {vs = vs} {past = past} v k t st lt e is =
+    subst (λ (z : Stage). Flies s.user v k z past) is (by_fault s.user v k (vcpu_at vs v).fault (fault v past) past e refl (st.each v no_vcpu lt).fault_is)

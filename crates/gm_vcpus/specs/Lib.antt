@@ -1,0 +1,7 @@
+pub mod Vcpus
+pub mod Stages
+pub mod Stand
+pub mod Sights
+pub mod Puts
+pub mod Adds
+pub mod Holds
