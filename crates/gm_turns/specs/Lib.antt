@@ -1,0 +1,15 @@
+pub mod Brackets
+pub mod Faulting
+pub mod HasMoreRoom
+pub mod Judging
+pub mod Logs
+pub mod Needs
+pub mod Populating
+pub mod Ready
+pub mod Room
+pub mod Runs
+pub mod Standing
+pub mod Touching
+pub mod Turning
+pub mod Waiting
+pub mod Stepping

@@ -1,0 +1,16 @@
+-- What a turn waits for.
+use Rattle.std.specs.Prelude.{ℕ, List}
+use Rattle.gm_base.specs.Scripts.{Orders}
+use Rattle.gm_base.specs.declared.values.Actor.{Actor}
+use Rattle.gm_base.specs.declared.values.Actor.TheVariants.{Vcpu, Caller}
+use Rattle.gm_callers.specs.Waiting.{WaitsOnCaller, WaitsOnVcpu}
+use Rattle.gm_flat.specs.declared.entry.Entry.{Entry}
+use Rattle.gm_turns.specs.declared.outcome.Blocker.{Blocker}
+use Rattle.gm_turns.specs.declared.outcome.Blocker.TheVariants.{Lock as OnLock, Inside as OnVcpu}
+
+-- a caller waits for the least caller that holds a lock which its next call needs, or its bracket for the least vCPU that
+-- is inside and hasn't flushed since it began; a vCPU waits for nobody
+abbrev pub WaitsOn : Orders → Actor → Blocker → List Entry → Type 0
+WaitsOn o (Caller c) (OnLock holder) past = WaitsOnCaller o c holder past
+WaitsOn o (Caller c) (OnVcpu v) past = WaitsOnVcpu c v past
+WaitsOn o (Vcpu v) blocker past = ⊥

@@ -1,0 +1,27 @@
+//! The turns of a machine: four groups, each of which stands for the history, and what a turn of an actor does to them.
+#![tactic(auto)]
+
+mod brackets;
+mod caller_turns;
+mod calls;
+mod faults;
+mod frees;
+mod guest;
+mod log;
+mod needs;
+mod note;
+mod outcome;
+mod pages;
+mod parts;
+mod room;
+mod start;
+mod touches;
+mod turns;
+mod vcpu_turns;
+
+pub use log::Log;
+pub use outcome::{Blocker, How, Outcome};
+pub use parts::Core;
+pub use room::make_room;
+pub use start::fresh;
+pub use turns::{kick, take_turn};
