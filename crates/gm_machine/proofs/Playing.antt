@@ -18,7 +18,7 @@ use Rattle.gm_laws.proofs.Kit.{by}
 use Rattle.gm_laws.proofs.TurnsKeep.{new_turn, no_row}
 use Rattle.gm_laws.specs.Turns.{IsNewTurn, IsTurn, onto}
 use Rattle.gm_machine.specs.Played.{PlaysTurn, PlaysTurns}
-use Rattle.gm_machine.specs.Settled.{HasNoLook, IsHereAlone, TookTurn}
+use Rattle.gm_turns.specs.Ready.{HasNoLook, IsHereAlone, TookTurn}
 
 -- each entry of a history has a turn from 1 to n
 abbrev Within : ℕ → List Entry → Type 0

@@ -1,12 +1,4 @@
 pub mod Flags
-pub mod Holders
-pub mod Kept
-pub mod Plans
 pub mod Played
-pub mod Settled
-pub mod Sparer
-pub mod Stands
+pub mod Room
 pub mod Steps
-pub mod Ties
-pub mod Views
-pub mod Waiting

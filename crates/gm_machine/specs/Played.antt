@@ -9,7 +9,7 @@ use Rattle.gm_flat.specs.Histories.{gone}
 use Rattle.gm_flat.specs.Mappings.{pending}
 use Rattle.gm_flat.specs.RightOrder.{IsBlocked}
 use Rattle.gm_flat.specs.declared.entry.Entry.{Entry}
-use Rattle.gm_machine.specs.Settled.{TookTurn}
+use Rattle.gm_turns.specs.Ready.{TookTurn}
 
 -- the actor's turn came, since it hadn't written `gone` and waited for nobody
 pub record Comes (o : Orders) (actor : Actor) (turn : ℕ) (before past : List Entry) : Type 0 where

@@ -9,13 +9,13 @@ use Rattle.gm_flat.specs.RightHistory.{Right}
 use Rattle.gm_flat.specs.RightOrder.{IsBlocked}
 use Rattle.gm_flat.specs.declared.entry.Entry.{Entry}
 use Rattle.gm_machine.specs.Flags.{Flags, no_flags}
-use Rattle.gm_machine.specs.Settled.{TookTurn}
-use Rattle.gm_machine.specs.Waiting.{WaitsOn}
-use Rattle.gm_machine.specs.declared.outcome.Blocker.{Blocker}
-use Rattle.gm_machine.specs.declared.outcome.How.{How}
-use Rattle.gm_machine.specs.declared.outcome.How.TheVariants.{Next, Kick}
-use Rattle.gm_machine.specs.declared.outcome.Outcome.{Outcome}
-use Rattle.gm_machine.specs.declared.outcome.Outcome.TheVariants.{Moved, Done, Nothing, Waits}
+use Rattle.gm_turns.specs.Ready.{TookTurn}
+use Rattle.gm_turns.specs.Waiting.{WaitsOn}
+use Rattle.gm_turns.specs.declared.outcome.Blocker.{Blocker}
+use Rattle.gm_turns.specs.declared.outcome.How.{How}
+use Rattle.gm_turns.specs.declared.outcome.How.TheVariants.{Next, Kick}
+use Rattle.gm_turns.specs.declared.outcome.Outcome.{Outcome}
+use Rattle.gm_turns.specs.declared.outcome.Outcome.TheVariants.{Moved, Done, Nothing, Waits}
 
 -- what contracts see of a machine: its setup and each actor's commands, its history with the newest entry first, its
 -- turns, and which actors have room

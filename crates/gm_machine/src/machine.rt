@@ -2,35 +2,26 @@
 
 ghost use Rattle.std.specs.Prelude.{◌≡◌, ◌+◌, ◌-◌, ◌^◌, ◌<◌, ◌≤◌, true, false, [], length, reverse, OnOk, OnErr, IfOk};
 ghost use Rattle.gm_base.specs.Scripts.{IsOf};
-ghost use Rattle.gm_base.specs.declared.values.Actor.TheVariants.{Vcpu, Caller};
 ghost use Rattle.gm_flat.specs.Histories.{gone};
 ghost use Rattle.gm_flat.specs.InTypes.{AreInTypes};
 ghost use Rattle.gm_flat.specs.Mappings.{pending};
 ghost use Rattle.gm_flat.specs.RightHistory.{Right};
 ghost use Rattle.gm_laws.specs.Turns.{IsNewTurn};
 ghost use Rattle.gm_machine.specs.Flags.{flag_of, with_flag, no_flags};
-ghost use Rattle.gm_machine.specs.Settled.{IsRoomy, KicksTo, Settled};
 ghost use Rattle.gm_machine.specs.Steps.{IsVcpu, StepsTo};
-ghost use Rattle.gm_machine.specs.Views.{values_of};
 
 use crate::flags::ActorFlags;
-use crate::fresh::fresh;
-use crate::outcome::{How, Outcome};
-use crate::parts::Parts;
-use crate::room::make_room;
-use crate::turns::take_turn;
-use crate::vcpu_turns::kick;
 use gm_base::{Actor, NoMemory, Setup};
 use gm_flat::Entry;
 use gm_script::Script;
+use gm_turns::{Core, How, Outcome, fresh, kick, make_room, take_turn};
 use std::alloc::Global;
 use std::marker::Model;
 
-/// The core and the history of its turns, which is right.
+/// The core, whose history is right, and who has room for a turn.
 #[derive(Drop)]
 pub struct Machine {
-    parts: Parts,
-    turns: u64,
+    core: Core,
     room: ActorFlags,
 }
 
@@ -39,13 +30,13 @@ impl Model for Machine {
 
     ghost Value = { Seen };
 
-    ghost use Rattle.std.specs.Prelude.{◌+◌};
-    ghost use Rattle.gm_machine.specs.Settled.{Settled, RoomIsKept};
-    ghost use Rattle.gm_machine.specs.Views.{orders_of, values_of};
+    ghost use Rattle.gm_machine.specs.Room.{RoomIsKept};
+    ghost use Rattle.gm_turns.specs.Ready.{Settled};
+    ghost use Rattle.gm_turns.specs.Room.{orders_of};
 
-    ghost view = { λ m. record { orders = orders_of (values_of m.parts); past = m.parts.log.past; turns = m.turns; room = m.room } };
+    ghost view = { λ m. record { orders = orders_of m.core; past = m.core.log.past; turns = m.core.turns; room = m.room } };
 
-    ghost invariant = { λ m. Settled (values_of m.parts) (m.turns + 1) × RoomIsKept m.parts m.room };
+    ghost invariant = { λ m. Settled m.core × RoomIsKept m.core m.room };
 }
 
 impl Machine {
@@ -53,14 +44,10 @@ impl Machine {
     pub fn new(alloc: Global, script: &Script) -> Result<Machine, NoMemory>
         ensures { IfOk result (λ m. m ≡ record { orders = script.now.orders; past = []; turns = 0; room = no_flags script.now.orders.setup.vcpus script.now.orders.setup.callers }) }
     {
-        let parts = fresh(alloc, script)?;
+        let core = fresh(alloc, script)?;
         let setup = script.setup();
         let room = ActorFlags::new(alloc, setup.vcpus, setup.callers)?;
-        Ok(Machine {
-            parts,
-            turns: 0,
-            room,
-        })
+        Ok(Machine { core, room })
     }
 
     /// Makes room for one turn of the actor, which must be one of the setup's. After `NoMemory` contracts see the
@@ -71,7 +58,7 @@ impl Machine {
         ensures room { OnOk result (flag_of self.new.room actor ≡ true) }
         ensures err { OnErr result (self.new ≡ self.old) }
     {
-        make_room(&mut self.parts, actor)?;
+        make_room(&mut self.core, actor)?;
         self.room.set(actor);
         Ok(())
     }
@@ -94,9 +81,9 @@ impl Machine {
     {
         match how {
             How::Next => {
-                match take_turn(&mut self.parts, self.turns + 1, actor) {
+                match take_turn(&mut self.core, actor) {
                     Outcome::Moved => {
-                        self.turns += 1;
+                        self.core.turns += 1;
                         self.room.clear();
                         Outcome::Moved
                     }
@@ -107,8 +94,8 @@ impl Machine {
             }
             How::Kick => match actor {
                 Actor::Vcpu(v) => {
-                    if kick(&mut self.parts, self.turns + 1, v) {
-                        self.turns += 1;
+                    if kick(&mut self.core, v) {
+                        self.core.turns += 1;
                         self.room.clear();
                         Outcome::Moved
                     } else {
@@ -125,7 +112,7 @@ impl Machine {
         requires { self.old.turns < 2 ^ 64 - 1 }
         ensures { self.new ≡ record self.old { turns = self.old.turns + 1 } }
     {
-        self.turns += 1;
+        self.core.turns += 1;
     }
 
     /// Whether the actor, which must be one of the setup's, has written `gone`.
@@ -133,7 +120,10 @@ impl Machine {
         requires { IsOf self.now.orders.setup actor }
         ensures { result ≡ gone actor self.now.past }
     {
-        self.parts.gone.has(actor)
+        match actor {
+            Actor::Vcpu(v) => self.core.vcpus.is_gone(v),
+            Actor::Caller(c) => self.core.callers.is_gone(c),
+        }
     }
 
     /// Whether a flush of the vCPU, which must be one of the setup's, is pending.
@@ -141,7 +131,7 @@ impl Machine {
         requires { vcpu < self.now.orders.setup.vcpus }
         ensures { result ≡ pending vcpu self.now.past }
     {
-        self.parts.mmu.pending(vcpu)
+        self.core.mmu.pending(vcpu)
     }
 
     /// The history, the oldest entry first. It is right, its numbers are within the types of entries, and turns after it
@@ -152,20 +142,20 @@ impl Machine {
         ensures in_types { AreInTypes result.now }
         ensures counted { IsNewTurn (self.now.turns + 1) self.now.past }
     {
-        self.parts.log.entries()
+        self.core.log.entries()
     }
 
     /// How many turns were taken or counted.
     pub fn turns(&self) -> u64
         ensures { result ≡ self.now.turns }
     {
-        self.turns
+        self.core.turns
     }
 
     /// The setup.
     pub fn setup(&self) -> Setup
         ensures { result ≡ self.now.orders.setup }
     {
-        self.parts.setup
+        self.core.setup
     }
 }
