@@ -1,6 +1,5 @@
-pub mod Calls
 pub mod Digits
-pub mod Evens
+pub mod Keeping
 pub mod LineCuts
 pub mod Puts
 pub mod Turns

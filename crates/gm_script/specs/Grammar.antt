@@ -14,9 +14,8 @@ use Rattle.gm_base.specs.declared.script.Command.TheVariants as command
 use Rattle.gm_base.specs.declared.script.Turn.{Turn}
 use Rattle.gm_base.specs.declared.script.Turn.TheVariants as turn
 use Rattle.gm_base.specs.declared.numbers.TheConstants.{MOST_COMMANDS, MOST_TURNS, PAGE_BYTES, WORD_BYTES}
-use Rattle.gm_ioctl.specs.Arguments.{passes}
 use Rattle.gm_script.specs.declared.error.Cause.{Cause}
-use Rattle.gm_script.specs.declared.error.Cause.TheVariants.{Bytes, Cut, Machine, Word, Number, Actor, Align, Limit, Unbuilt}
+use Rattle.gm_script.specs.declared.error.Cause.TheVariants.{Bytes, Cut, Machine, Word, Number, Actor, Align, Limit}
 use Rattle.gm_script.specs.declared.forms.Form.{Form}
 use Rattle.gm_script.specs.declared.orders.Order.{Order}
 use Rattle.gm_script.specs.declared.orders.Order.TheVariants.{Touch, Call, Turns, Kick, Round}
@@ -26,22 +25,19 @@ use Rattle.gm_script.specs.Actors.{is_known, actor_of}
 use Rattle.gm_script.specs.Forms.{form_of}
 use Rattle.gm_script.specs.Orders.{order_of}
 use Rattle.gm_script.specs.Setups.{setup_of}
-use Rattle.gm_script.specs.BuiltForms.{is_region, is_built}
 use Rattle.gm_script.specs.Rounds.{rounds_of}
 
--- a script as far as it was read: `commands` counts those of all actors, and `has_region` says whether a region of a line so
--- far passes
+-- a script as far as it was read: `commands` counts those of all actors
 pub record Draft : Type 0 where
   pub setup : Setup
   pub vcpus : List (List Command)
   pub callers : List (List Command)
   pub turns : List Turn
   pub commands : ℕ
-  pub has_region : Bool
 
 -- at the `machine` line
 abbrev pub empty_draft : Setup → Draft
-empty_draft s = record { setup = s; vcpus = replicate s.vcpus []; callers = replicate s.callers []; turns = []; commands = 0; has_region = false }
+empty_draft s = record { setup = s; vcpus = replicate s.vcpus []; callers = replicate s.callers []; turns = []; commands = 0 }
 
 -- the causes of a line of a form, each for the order that it gives
 
@@ -95,7 +91,7 @@ abbrev pub with_access : Draft → ℕ → Aim → Draft
 with_access d vcpu aim = record d { vcpus = with_command d.vcpus vcpu (command.Touch aim); commands = d.commands + 1 }
 
 abbrev pub with_call : Draft → ℕ → Ioctl → Draft
-with_call d caller call = record d { callers = with_command d.callers caller (command.Call call); commands = d.commands + 1; has_region = d.has_region || (passes d.setup.user call && is_region call) }
+with_call d caller call = record d { callers = with_command d.callers caller (command.Call call); commands = d.commands + 1 }
 
 abbrev pub with_turns : Draft → List Turn → Draft
 with_turns d turns = record d { turns = d.turns ++ turns }
@@ -114,7 +110,6 @@ ordered d order =
     if not (has_actor d.setup order) then Err Actor
     else if not (is_aligned order) then Err Align
     else if not (has_room d order) then Err Limit
-    else if not (is_built d.setup.user d.has_region order) then Err Unbuilt
     else Ok (after_order d order)
 
 abbrev pub numbered : Draft → Option Order → Result Draft Cause

@@ -1,6 +1,5 @@
 pub mod Actors
-pub mod Built
-pub mod BuiltForms
+pub mod Schedules
 pub mod Drafts
 pub mod Forms
 pub mod Grammar

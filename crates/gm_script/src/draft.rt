@@ -6,10 +6,9 @@ ghost use Rattle.gm_script.specs.Actors.{is_known, actor_of};
 ghost use Rattle.gm_script.specs.Numbers.{below_of, NUMBER_LIMIT};
 ghost use Rattle.gm_script.specs.Rounds.{vcpus_round, callers_round, round_of, rounds_of};
 ghost use Rattle.gm_script.specs.Grammar.{has_actor, is_aligned, commands_in, turns_in, has_room, aim_of, with_access, with_call, after_order, empty_draft};
-ghost use Rattle.gm_script.specs.Drafts.{draft_of, IsEvenDraft};
+ghost use Rattle.gm_script.specs.Drafts.{draft_of, IsScriptDraft};
 
 use crate::actors::Named;
-use crate::built::{is_region, passes};
 use crate::error::Cause;
 use crate::lists::CommandList;
 use crate::orders::Order;
@@ -19,8 +18,7 @@ use gm_base::{
 };
 use std::alloc::Global;
 
-/// A setup, each actor's commands and the turns so far; how many commands there are, and whether a region of them
-/// passes.
+/// A setup, each actor's commands and the turns so far; and how many commands there are.
 #[derive(Drop)]
 pub struct Draft {
     pub setup: Setup,
@@ -28,7 +26,6 @@ pub struct Draft {
     pub callers: Vec<CommandList>,
     pub turns: Vec<Turn>,
     pub commands: usize,
-    pub has_region: bool,
 }
 
 /// Why a line adds nothing.
@@ -107,7 +104,7 @@ fn turns_in(setup: Setup, order: Order) -> Option<u64>
 /// Whether the order doesn't make the commands or turns too many.
 #[tactic(auto, unfolding(crate::specs::Grammar::has_room))]
 pub fn has_room(draft: &Draft, order: Order) -> bool
-    requires { IsEvenDraft (draft_of draft.now) }
+    requires { IsScriptDraft (draft_of draft.now) }
     ensures { result ≡ has_room (draft_of draft.now) order }
 {
     let turns = match turns_in(draft.setup, order) {
@@ -121,7 +118,7 @@ pub fn has_room(draft: &Draft, order: Order) -> bool
 /// Adds what the order asks for.
 #[tactic(auto, unfolding(crate::specs::Grammar::after_order, crate::specs::Grammar::has_actor))]
 pub fn add_order(draft: &mut Draft, order: Order) -> Result<(), NoMemory>
-    requires even { IsEvenDraft (draft_of draft.old) }
+    requires even { IsScriptDraft (draft_of draft.old) }
     requires actor { has_actor draft.old.setup order ≡ true }
     ensures { OnOk result (draft_of draft.new ≡ after_order (draft_of draft.old) order) }
 {
@@ -161,7 +158,7 @@ fn access_at(kind: Kind, gpa: u64, op: Op) -> Access
 
 /// Adds a command of a vCPU.
 fn add_access(draft: &mut Draft, vcpu: u64, access: Access) -> Result<(), NoMemory>
-    requires even { IsEvenDraft (draft_of draft.old) }
+    requires even { IsScriptDraft (draft_of draft.old) }
     requires actor { vcpu < draft.old.setup.vcpus }
     ensures { OnOk result (draft_of draft.new ≡ with_access (draft_of draft.old) vcpu access) }
 {
@@ -173,15 +170,13 @@ fn add_access(draft: &mut Draft, vcpu: u64, access: Access) -> Result<(), NoMemo
 
 /// Adds a call of a caller.
 fn add_call(draft: &mut Draft, caller: u64, call: Ioctl) -> Result<(), NoMemory>
-    requires even { IsEvenDraft (draft_of draft.old) }
+    requires even { IsScriptDraft (draft_of draft.old) }
     requires actor { caller < draft.old.setup.callers }
     ensures { OnOk result (draft_of draft.new ≡ with_call (draft_of draft.old) caller call) }
 {
-    let has_region = draft.has_region || (passes(draft.setup.user, call) && is_region(call));
     let list = &mut draft.callers[caller as usize];
     list.push(Command::Call(call))?;
     draft.commands += 1;
-    draft.has_region = has_region;
     Ok(())
 }
 
@@ -251,7 +246,6 @@ pub fn empty(alloc: Global, setup: Setup) -> Result<Draft, NoMemory>
         callers,
         turns: Vec::new(alloc),
         commands: 0,
-        has_region: false,
     })
 }
 

@@ -17,7 +17,7 @@ use thiserror::Error;
 /// - `Actor`: an actor's number isn't below the setup's count.
 /// - `Align`: the guest address of an access isn't a multiple of 8.
 /// - `Limit`: a number of `machine` is outside the limits, or the line makes the commands or turns too many.
-/// - `Unbuilt`: the line is right, and what it asks for isn't built yet.
+/// - `Unbuilt`: the line is right, and what it asks for, `huge=on`, isn't built yet.
 #[derive(Clone, Copy, Debug, PartialEq, Eq)]
 pub enum Cause {
     Bytes,

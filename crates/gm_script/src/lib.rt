@@ -18,11 +18,10 @@
 //! | `kick vN` | one turn that kicks the vCPU |
 //! | `round K` | K times: for each vCPU in rising order a kick and a turn, then for each caller a turn |
 //!
-//! What is built of these stands in one table, `is_built`.
+//! All of it is built but `huge=on`, whose cause is `unbuilt`.
 #![tactic(auto)]
 
 mod actors;
-mod built;
 mod draft;
 mod error;
 mod forms;

@@ -3,10 +3,9 @@
 ghost use Rattle.std.specs.Prelude.{◌≡◌, ◌+◌, Some, None, Ok, Err, IfErr, IfOk, IfSome, OnOk, MatchResult, option_map, true};
 ghost use Rattle.gm_script.specs.Lines.{words_of};
 ghost use Rattle.gm_script.specs.Grammar.{ordered, later_line, after_line, empty_draft};
-ghost use Rattle.gm_script.specs.Built.{IsWithin};
-ghost use Rattle.gm_script.specs.Drafts.{draft_of, IsEvenDraft, RefusedFor};
+ghost use Rattle.gm_script.specs.Schedules.{IsWithin};
+ghost use Rattle.gm_script.specs.Drafts.{draft_of, IsScriptDraft, RefusedFor};
 
-use crate::built::is_built;
 use crate::draft::{Draft, Refused, add_order, has_actor, has_room, is_aligned};
 use crate::error::Cause;
 use crate::forms::read_form;
@@ -40,7 +39,7 @@ pub fn read_first(line: &[u8], is_ended: bool) -> Result<Option<Setup>, Cause>
 /// Adds what a line after the `machine` line says.
 #[tactic(auto, unfolding(crate::specs::Grammar::after_line))]
 pub fn read_later(draft: &mut Draft, line: &[u8], is_ended: bool) -> Result<(), Refused>
-    requires { IsEvenDraft (draft_of draft.old) }
+    requires { IsScriptDraft (draft_of draft.old) }
     ensures ok { OnOk result (after_line (Some (draft_of draft.old)) (record { bytes = line.now; is_ended = is_ended }) ≡ Ok (Some (draft_of draft.new))) }
     ensures bad { IfErr result (RefusedFor (after_line (Some (draft_of draft.old)) (record { bytes = line.now; is_ended = is_ended }))) }
 {
@@ -58,7 +57,7 @@ pub fn read_later(draft: &mut Draft, line: &[u8], is_ended: bool) -> Result<(), 
 
 #[tactic(auto, unfolding(crate::specs::Grammar::later_line))]
 fn read_words(draft: &mut Draft, line: &[u8]) -> Result<(), Refused>
-    requires { IsEvenDraft (draft_of draft.old) }
+    requires { IsScriptDraft (draft_of draft.old) }
     ensures ok { OnOk result (later_line (draft_of draft.old) (words_of line.now) ≡ Ok (draft_of draft.new)) }
     ensures bad { IfErr result (RefusedFor (later_line (draft_of draft.old) (words_of line.now))) }
 {
@@ -78,7 +77,7 @@ fn read_words(draft: &mut Draft, line: &[u8]) -> Result<(), Refused>
 /// Adds what an order asks for, or tells its first cause.
 #[tactic(auto, unfolding(crate::specs::Grammar::ordered))]
 fn obey(draft: &mut Draft, order: Order) -> Result<(), Refused>
-    requires { IsEvenDraft (draft_of draft.old) }
+    requires { IsScriptDraft (draft_of draft.old) }
     ensures ok { OnOk result (ordered (draft_of draft.old) order ≡ Ok (draft_of draft.new)) }
     ensures bad { IfErr result (RefusedFor (ordered (draft_of draft.old) order)) }
 {
@@ -90,9 +89,6 @@ fn obey(draft: &mut Draft, order: Order) -> Result<(), Refused>
     }
     if !has_room(draft, order) {
         return Err(Refused::Bad(Cause::Limit));
-    }
-    if !is_built(draft.setup.user, draft.has_region, order) {
-        return Err(Refused::Bad(Cause::Unbuilt));
     }
     add_order(draft, order)?;
     Ok(())

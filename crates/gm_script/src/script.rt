@@ -2,8 +2,8 @@
 
 ghost use Rattle.std.specs.Prelude.{◌≡◌, ◌+◌, ◌<◌, ◌≤◌, ◌^◌, length, Some, None, IfOk, IfErr, All};
 ghost use Rattle.gm_base.specs.Scripts.{commands_of, IsOf, IsTurnOf};
-ghost use Rattle.gm_script.specs.Built.{IsEven, IsWithin};
-ghost use Rattle.gm_script.specs.Drafts.{draft_of, IsEvenDraft};
+ghost use Rattle.gm_script.specs.Schedules.{IsScript, IsWithin};
+ghost use Rattle.gm_script.specs.Drafts.{draft_of, IsScriptDraft};
 ghost use Rattle.gm_script.specs.Lines.{lines_of};
 ghost use Rattle.gm_script.specs.Grammar.{Good, judged, script_of, empty_draft, finished_draft};
 ghost use Rattle.gm_script.specs.Refusals.{RefusedAs, JudgedBad};
@@ -32,18 +32,18 @@ impl Model for Script {
     ghost Value = { Schedule };
 
     ghost use Rattle.gm_script.specs.Kept.{schedule_kept};
-    ghost use Rattle.gm_script.specs.Built.{IsEven};
+    ghost use Rattle.gm_script.specs.Schedules.{IsScript};
 
     ghost view = { λ s. schedule_kept s };
 
-    ghost invariant = { λ s. IsEven (schedule_kept s) };
+    ghost invariant = { λ s. IsScript (schedule_kept s) };
 }
 
 impl Script {
     /// The machine's setup.
     pub fn setup(&self) -> Setup
         ensures setup { result ≡ self.now.orders.setup }
-        ensures even { IsEven self.now }
+        ensures even { IsScript self.now }
     {
         self.setup
     }
@@ -91,7 +91,7 @@ impl Script {
 /// Reads a script. `BadLine` comes exactly where the bytes form none: it has the first bad line, numbered from 1, and in
 /// it the first cause in the order of `Cause`. A script without a `machine` line is bad at the line after its last
 /// newline. `NoMemory` is the other error.
-#[tactic(auto, using(crate::proofs::Evens::even_empty), unfolding(crate::specs::Grammar::script_of))]
+#[tactic(auto, using(crate::proofs::Keeping::even_empty), unfolding(crate::specs::Grammar::script_of))]
 pub fn read_script(alloc: Global, bytes: &[u8]) -> Result<Script, ScriptError>
     ensures ok { IfOk result (λ s. script_of bytes.now ≡ Good s) }
     ensures bad { IfErr result (RefusedAs bytes.now) }
@@ -105,7 +105,6 @@ pub fn read_script(alloc: Global, bytes: &[u8]) -> Result<Script, ScriptError>
         callers,
         turns,
         commands: _,
-        has_region: _,
     } = draft;
     Ok(Script {
         setup,
@@ -164,11 +163,11 @@ fn find_machine(bytes: &[u8]) -> Result<Started<'_>, ScriptError>
 /// Reads the lines after the `machine` line, of which the first has this number.
 #[tactic(auto, using(crate::proofs::LineCuts::no_line))]
 fn read_lines(draft: Draft, bytes: &[u8], first: u64) -> Result<Draft, ScriptError>
-    requires even { IsEvenDraft (draft_of draft) }
+    requires even { IsScriptDraft (draft_of draft) }
     requires number { first + length bytes.now ≤ 2 ^ 63 }
     ensures ok { IfOk result (λ s. judged (lines_of bytes.now) first (Some (draft_of draft)) ≡ Good (finished_draft (draft_of s))) }
     ensures bad { IfErr result (JudgedBad (judged (lines_of bytes.now) first (Some (draft_of draft)))) }
-    ensures even { IfOk result (λ s. IsEvenDraft (draft_of s)) }
+    ensures even { IfOk result (λ s. IsScriptDraft (draft_of s)) }
 {
     let mut read = draft;
     let mut rest = bytes;

@@ -4,7 +4,7 @@ ghost use Rattle.std.specs.Prelude.{◌≡◌, IfOk, Ok, drop, true, false};
 ghost use Rattle.gm_script.specs.Lines.{words_of, word_at};
 ghost use Rattle.gm_script.specs.Numbers.{number_of};
 ghost use Rattle.gm_script.specs.Setups.{is_machine, huge_of, counts_of, is_within, built_setup, setup_of};
-ghost use Rattle.gm_script.specs.Built.{IsWithin};
+ghost use Rattle.gm_script.specs.Schedules.{IsWithin};
 
 use crate::error::Cause;
 use crate::numbers::read_number;

@@ -3,7 +3,7 @@ use Rattle.std.proofs.lemmas.Grind.{common_steps}
 use Rattle.gm_script.specs.Drafts.{draft_of}
 use Rattle.gm_script.specs.Lines.{Line}
 use Rattle.gm_script.specs.Grammar.{after_line}
-use Rattle.gm_script.proofs.Evens.{even_line}
+use Rattle.gm_script.proofs.Keeping.{even_line}
 use Rattle.gm_script.proofs.script.read_lines.Goals as goal
 
 pub loop-rest-preserved : goal.loop-rest-preserved
