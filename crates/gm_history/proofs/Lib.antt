@@ -1,0 +1,17 @@
+pub mod Splits
+pub mod Readings
+pub mod NumberReads
+pub mod SpanLists
+pub mod FieldReads
+pub mod Weaving
+pub mod Says
+pub mod LastTurns
+pub mod SpanReads
+pub mod WhatReads
+pub mod WhatTexts
+pub mod WhatLines
+pub mod EntryReads
+pub mod Judging
+pub mod SameLines
+pub mod BadLines
+pub mod Reports

@@ -1,0 +1,10 @@
+pub mod Cuts
+pub mod Numerals
+pub mod Ranges
+pub mod Fields
+pub mod Patterns
+pub mod Whats
+pub mod Lines
+pub mod Reading
+pub mod TextForm
+pub mod Refusals

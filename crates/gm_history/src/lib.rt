@@ -1,0 +1,24 @@
+//! Reads histories back from their text, version 2.
+//!
+//! A history's text has a first line, the `machine` line, a line for each entry and an `end` line. The text of a
+//! history that can be told is read as that history; of other bytes the bad line is told.
+#![tactic(auto)]
+
+mod calls;
+mod cuts;
+mod effects;
+mod entries;
+mod error;
+mod faults;
+mod fields;
+mod history;
+mod laws;
+mod numerals;
+mod replies;
+
+pub use error::HistoryError;
+pub use history::{History, read_history};
+pub use laws::{one_history, text_is_of_form};
+
+#[cfg(test)]
+mod tests;
