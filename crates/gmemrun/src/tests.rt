@@ -16,6 +16,8 @@ const A_WRITE_WITHOUT_TURNS: &[u8] =
 const A_PRIVATE_WRITE: &[u8] =
     b"machine frames=4 user=4 vcpus=1 callers=1 huge=off\nv0 write private 0 1\n";
 
+const HUGE_LEAVES: &[u8] = b"machine frames=4 user=4 vcpus=1 callers=1 huge=on\n";
+
 const HEAD: &[u8] = b"gmem-history 2\nmachine frames=4 user=4 vcpus=1 callers=1 huge=off\n";
 
 const FIRST_READ: &[u8] =
@@ -27,7 +29,7 @@ const SECOND_READ: &[u8] =
 // The rows over ends that never fail: the script, the status, and the pieces of the text.
 #[test]
 fn rows_over_sure_ends(rt: HostRuntime) -> Result<(), Fail> {
-    let rows: [(&[u8], Status, [&[u8]; 4]); 5] = [
+    let rows: [(&[u8], Status, [&[u8]; 4]); 6] = [
         (
             SMALLEST,
             Status::Ok,
@@ -50,8 +52,13 @@ fn rows_over_sure_ends(rt: HostRuntime) -> Result<(), Fail> {
         ),
         (
             A_PRIVATE_WRITE,
+            Status::Ok,
+            [HEAD, b"", b"", b"end turns=0 entries=0\n"],
+        ),
+        (
+            HUGE_LEAVES,
             Status::BadScript,
-            [b"bad line=2 cause=unbuilt\n", b"", b"", b""],
+            [b"bad line=1 cause=unbuilt\n", b"", b"", b""],
         ),
     ];
     for (script, status, pieces) in rows {
