@@ -19,3 +19,6 @@ pub mod Judging
 pub mod SameLines
 pub mod BadLines
 pub mod Reports
+pub mod GivenFrames
+pub mod RightUp
+pub mod Ups

@@ -83,3 +83,12 @@ IsOld runs w = HasLine (giving_of w)
 abbrev pub AreOld : List Run → List Entry → Type 0
 AreOld runs [] = Unit {0}
 AreOld runs (e ∷ es) = IsOld runs e.what × AreOld (after_giving (giving_of e.what) runs) es
+
+-- no entry is a mark
+abbrev pub IsNoMark : What → Type 0
+IsNoMark (Change (Mark slot)) = ⊥
+IsNoMark _ = Unit {0}
+
+abbrev pub AreUnmarked : List Entry → Type 0
+AreUnmarked [] = Unit {0}
+AreUnmarked (e ∷ es) = IsNoMark e.what × AreUnmarked es

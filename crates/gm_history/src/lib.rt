@@ -23,7 +23,7 @@ mod version;
 
 pub use error::HistoryError;
 pub use history::{History, read_history};
-pub use laws::{one_history, text_is_of_form};
+pub use laws::{one_history, one_up, right_is_brought_up, text_is_of_form};
 
 #[cfg(test)]
 mod tests;
