@@ -11,3 +11,4 @@ pub mod Lines
 pub mod TextForm
 pub mod Reading
 pub mod Refusals
+pub mod Migrating

@@ -16,14 +16,16 @@ mod given;
 mod history;
 mod laws;
 mod lines;
+mod migrating;
 mod numerals;
 mod old;
 mod replies;
 mod version;
 
-pub use error::HistoryError;
+pub use error::{HistoryError, MigrateError};
 pub use history::{History, read_history};
 pub use laws::{one_history, one_up, right_is_brought_up, text_is_of_form};
+pub use migrating::migrate;
 
 #[cfg(test)]
 mod tests;
