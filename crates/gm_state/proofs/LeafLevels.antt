@@ -95,8 +95,8 @@ shared_back slot first f u al le c = go c.2
     same u a b p e le g h = grind (arith, nat_tests)
 
     go : ((k : ℕ) → k < BLOCK_PAGES → IsUserPage (c.0 + k) (named f (first + k))) ⊎ ((k : ℕ) → k < BLOCK_PAGES → IsFrame (c.0 + k) (named f (first + k))) → slot.user % BLOCK_PAGES ≡ slot.base % BLOCK_PAGES
-    go (inl h) = same slot.user first slot.base c.0 al le c.1 (number ((slot.user + (first + 0)) - slot.base) (c.0 + 0) (subst (IsUserPage (c.0 + 0)) (named_is slot Shared first 0 f u (lit<)) (h 0 (lit<))))
-    go (inr h) = absurd (subst (IsFrame (c.0 + 0)) (named_is slot Shared first 0 f u (lit<)) (h 0 (lit<)))
+    go (inl h) = same slot.user first slot.base c.0 al le c.1 (number ((slot.user + (first + 0)) - slot.base) (c.0 + 0) (subst (IsUserPage (c.0 + 0)) (named_is slot Shared first 0 f u (lit< tt)) (h 0 (lit< tt))))
+    go (inr h) = absurd (subst (IsFrame (c.0 + 0)) (named_is slot Shared first 0 f u (lit< tt)) (h 0 (lit< tt)))
 
 frame_named : (frame : ℕ) (o : Option Folio) → HasFrame frame o → IsFrame frame (folio_named o)
 frame_named frame None h = h
@@ -127,7 +127,7 @@ pub private_back : (slot : SlotView) (file first : ℕ) (f : Flat) → LiesUnder
 private_back slot file first f u e le n c = go c.2
   where
     go : ((k : ℕ) → k < BLOCK_PAGES → IsUserPage (c.0 + k) (named f (first + k))) ⊎ ((k : ℕ) → k < BLOCK_PAGES → IsFrame (c.0 + k) (named f (first + k))) → ⊥
-    go (inl h) = never_user (c.0 + 0) _ (subst (IsUserPage (c.0 + 0)) (in_file slot file first 0 f u e le (lit<)) (h 0 (lit<)))
+    go (inl h) = never_user (c.0 + 0) _ (subst (IsUserPage (c.0 + 0)) (in_file slot file first 0 f u e le (lit< tt)) (h 0 (lit< tt)))
     go (inr h) = n c.0 (record { aligned = c.1; follow = λ k lt. named_frame (c.0 + k) _ (subst (IsFrame (c.0 + k)) (in_file slot file first k f u e le lt) (h k lt)) })
 
 -- nothing is named where the slot has no file
@@ -135,11 +135,11 @@ pub no_file : (slot : SlotView) (first : ℕ) (f : Flat) → LiesUnder slot Priv
 no_file slot first f u e c = go c.2
   where
     nothing : named f (first + 0) ≡ None
-    nothing = named_is slot Private first 0 f u (lit<) ∙ ap (λ (o : Option ℕ). file_named ((slot.index + (first + 0)) - slot.base) f.cache o) e
+    nothing = named_is slot Private first 0 f u (lit< tt) ∙ ap (λ (o : Option ℕ). file_named ((slot.index + (first + 0)) - slot.base) f.cache o) e
 
     go : ((k : ℕ) → k < BLOCK_PAGES → IsUserPage (c.0 + k) (named f (first + k))) ⊎ ((k : ℕ) → k < BLOCK_PAGES → IsFrame (c.0 + k) (named f (first + k))) → ⊥
-    go (inl h) = subst (IsUserPage (c.0 + 0)) nothing (h 0 (lit<))
-    go (inr h) = subst (IsFrame (c.0 + 0)) nothing (h 0 (lit<))
+    go (inl h) = subst (IsUserPage (c.0 + 0)) nothing (h 0 (lit< tt))
+    go (inr h) = subst (IsFrame (c.0 + 0)) nothing (h 0 (lit< tt))
 
 -- the tests of the level
 

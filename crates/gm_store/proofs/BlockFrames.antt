@@ -36,8 +36,11 @@ count_after lo m (e ∷ es) le = go (is_within lo (m + 1) e) (is_within lo m e) 
 -- so many indexes that have something are counted
 some_counted : (n lo : ℕ) (es : List (ℕ × Folio)) → ((k : ℕ) → k < n → IsSome (lookup (lo + k) es)) → n ≤ count_within lo (lo + n) es
 some_counted zero lo es h = omega arith
-some_counted (suc n) lo es h = subst (λ (m : ℕ). n + 1 ≤ count_within lo m es) (assoc lo n) (subst (λ (c : ℕ). n + 1 ≤ c) (sym (count_after lo (lo + n) es (above lo n))) (both n (count_within lo (lo + n) es) (count_within (lo + n) (lo + n + 1) es) (some_counted n lo es (λ k lt. h k (later k n lt))) (count_within-there (lo + n) (lo + n + 1) (lo + n) es (same (lo + n)) (next (lo + n)) (h n (next n)))))
+some_counted (suc n) lo es h = up n (count_within lo (lo + suc n) es) (subst (λ (m : ℕ). n + 1 ≤ count_within lo m es) (assoc lo n) (subst (λ (c : ℕ). n + 1 ≤ c) (sym (count_after lo (lo + n) es (above lo n))) (both n (count_within lo (lo + n) es) (count_within (lo + n) (lo + n + 1) es) (some_counted n lo es (λ k lt. h k (later k n lt))) (count_within-there (lo + n) (lo + n + 1) (lo + n) es (same (lo + n)) (next (lo + n)) (h n (last n))))))
   where
+    up : (n c : ℕ) → n + 1 ≤ c → suc n ≤ c
+    up n c h = omega arith
+
     assoc : (a b : ℕ) → a + b + 1 ≡ a + suc b
     assoc a b = omega arith
 
@@ -50,6 +53,9 @@ some_counted (suc n) lo es h = subst (λ (m : ℕ). n + 1 ≤ count_within lo m 
     next : (a : ℕ) → a < a + 1
     next a = omega arith
 
+    last : (a : ℕ) → a < suc a
+    last a = omega arith
+
     later : (k n : ℕ) → k < n → k < suc n
     later k n lt = omega arith
 
@@ -57,8 +63,8 @@ some_counted (suc n) lo es h = subst (λ (m : ℕ). n + 1 ≤ count_within lo m 
     both n a b h g = omega arith
 
 has_one : (frame : ℕ) (o : Option Folio) → HasFrame frame o → IsSome o
-has_one frame None h = h
-has_one frame (Some folio) h = tt
+has_one frame None h = absurd h
+has_one frame (Some folio) h = refl
 
 -- the frames of so many indexes from one on follow one another
 abbrev pub Follow : ℕ → ℕ → ℕ → List (ℕ × Folio) → Type 0
@@ -82,11 +88,21 @@ follow_more count index frame es h g k lt = go (eqb k count) refl
     go false e = h k (earlier k count e lt)
 
 -- the frame of the first index is the one that they follow from
-pub follow_from : (count index frame first : ℕ) (o : Option Folio) (es : List (ℕ × Folio)) → 0 < count → o ≡ lookup index es → Follow count index frame es → HasFrame frame o
-follow_from count index frame first o es lt e h = subst (HasFrame frame) (sym e) (subst (λ (x : Option Folio). HasFrame frame x) (ap (λ (i : ℕ). lookup i es) (plain index)) (subst (λ (y : ℕ). HasFrame y (lookup (index + 0) es)) (plain frame) (h 0 lt)))
+pub follow_from : (index frame : ℕ) (first : Folio) (es : List (ℕ × Folio)) → lookup index es ≡ Some first → Follow BLOCK_PAGES index frame es → first.frame ≡ frame
+follow_from index frame first es e h = plain frame (subst (HasFrame (frame + 0)) e (subst (λ (i : ℕ). HasFrame (frame + 0) (lookup i es)) (start index) (h 0 (lit< tt))))
   where
-    plain : (a : ℕ) → a + 0 ≡ a
-    plain a = omega arith
+    start : (a : ℕ) → a + 0 ≡ a
+    start a = omega arith
+
+    plain : (a : ℕ) {x : ℕ} → x ≡ a + 0 → x ≡ a
+    plain a e = omega (arith, e)
+
+-- none, where the first index has nothing, or its frame is no multiple of 512, or too few are cached
+pub none_at_first : (index frame : ℕ) (es : List (ℕ × Folio)) → lookup index es ≡ None → Follow BLOCK_PAGES index frame es → ⊥
+none_at_first index frame es e h = subst (HasFrame (frame + 0)) e (subst (λ (i : ℕ). HasFrame (frame + 0) (lookup i es)) (start index) (h 0 (lit< tt)))
+  where
+    start : (a : ℕ) → a + 0 ≡ a
+    start a = omega arith
 
 -- what is found of a file is found of the state
 block_kept : (file index frame : ℕ) (f : Flat) (x : FileView) → FileKept (Some x) file f → frame % BLOCK_PAGES ≡ 0 → Follow BLOCK_PAGES index frame x.cached → IsBlockFrom file index frame f
@@ -105,4 +121,4 @@ block_none n st k file index x (Some frame) s is h = tt
 
 -- a shut file has no block
 pub no_block : (n : ℕ) (st : StoreView) (k : Stored) (file index : ℕ) → StoreStands n st k → file_in st.files file ≡ None → (frame : ℕ) → IsBlockFrom file index frame k.flat → ⊥
-no_block n st k file index s is frame b = subst (HasFrame (frame + 0)) (sym ((subst (λ (y : Option FileView). FileKept y file k.flat) is (s.files.each file)).cached_are (index + 0))) (b.follow 0 (lit<))
+no_block n st k file index s is frame b = subst (HasFrame (frame + 0)) (sym ((subst (λ (y : Option FileView). FileKept y file k.flat) is (s.files.each file)).cached_are (index + 0))) (b.follow 0 (lit< tt))

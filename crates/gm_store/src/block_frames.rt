@@ -46,10 +46,17 @@ fn block_frame(file: &File, index: u64) -> Option<u32>
 {
     let count = block_pages();
     let first = file.cached(index)?;
-    let is_block = u64::from(first.frame) % count == 0
-        && count <= file.count_in(index, index + count)
-        && frames_follow(file, index, u64::from(first.frame), count);
-    if is_block { Some(first.frame) } else { None }
+    if u64::from(first.frame) % count != 0 {
+        return None;
+    }
+    if file.count_in(index, index + count) < count {
+        return None;
+    }
+    if frames_follow(file, index, u64::from(first.frame), count) {
+        Some(first.frame)
+    } else {
+        None
+    }
 }
 
 impl Store {
