@@ -1,5 +1,5 @@
 -- What a caller waits for, over a core between two turns.
-use Rattle.std.proofs.Common.{◌≡◌, ℕ, ◌<◌, ◌≤◌, ◌&&◌, Bool, true, false, length, get_or, Option, Some, None, arith, sym, ◌∙◌, refl, ltb, inl, inr}
+use Rattle.std.proofs.Common.{◌≡◌, ℕ, ◌<◌, ◌≤◌, ◌&&◌, Bool, true, false, length, get_or, Some, None, arith, sym, ◌∙◌, refl, ltb, inl, inr}
 use Rattle.std.proofs.lemmas.Bool.{both_ways, cases_Bool}
 use Rattle.std.proofs.lemmas.Bool.Decides.{nat_tests}
 use Rattle.gm_base.specs.declared.calls.Ioctl.{Ioctl}
@@ -10,7 +10,7 @@ use Rattle.gm_callers.proofs.Waits.{may_judge, unblocked_ack, unblocked_begin, u
 use Rattle.gm_callers.specs.Callers.{caller_at, request_in}
 use Rattle.gm_callers.specs.Holding.{is_holder}
 use Rattle.gm_callers.specs.Stand.{IsAt}
-use Rattle.gm_callers.specs.Waiting.{WaitsOnCaller, WaitsOnVcpu}
+use Rattle.gm_callers.specs.Waiting.{WaitsOnVcpu}
 use Rattle.gm_calls.specs.Lent.{LentStand}
 use Rattle.gm_calls.specs.LockSets.{HasItsLocks}
 use Rattle.gm_calls.specs.declared.call.Step.{Step}
@@ -100,9 +100,6 @@ ack_unblocked k c effect t lt at all = unblocked_ack (orders_of k) c effect t.st
 
 present_is : (k : Core) (c : ℕ) → Settled k → c < k.setup.callers → (caller_at k.callers c).gone ≡ false → gone (Caller c) k.log.past ≡ false
 present_is k c t lt e = sym (t.stands.callers.each c lt).gone_is ∙ e
-
-pub gone_blocker : (k : Core) (c : ℕ) → Settled k → c < k.setup.callers → (caller_at k.callers c).gone ≡ true → IsBlocker (orders_of k) (Caller c) k.log.past None
-gone_blocker k c t lt e = inl (sym (t.stands.callers.each c lt).gone_is ∙ e)
 
 -- of a call in progress
 pub acked_blocker : (k : Core) (c v : ℕ) → Settled k → c < k.setup.callers → (caller_at k.callers c).gone ≡ false → IsStepOf (caller_at k.callers c).call step.Acked → IsLeastWaiting k.mmu.requests (request_in (caller_at k.callers c).call) v → IsBlocker (orders_of k) (Caller c) k.log.past (Some (OnVcpu v))

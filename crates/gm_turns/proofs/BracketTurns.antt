@@ -1,5 +1,5 @@
 -- The turns of a bracket.
-use Rattle.std.proofs.Common.{◌≡◌, ℕ, ◌+◌, ◌-◌, ◌<◌, ◌≤◌, ◌&&◌, ◌∷◌, Bool, true, false, length, get_or, set, Some, arith, sym, ◌∙◌, refl, ltb, inl, inr}
+use Rattle.std.proofs.Common.{ℕ, ◌+◌, ◌-◌, ◌<◌, ◌≤◌, ◌∷◌, false, set, Some, arith, refl}
 use Rattle.gm_base.specs.declared.numbers.TheConstants.{COUNTER_LIMIT}
 use Rattle.gm_base.specs.declared.values.Actor.TheVariants.{Caller}
 use Rattle.gm_callers.proofs.Answering as answering

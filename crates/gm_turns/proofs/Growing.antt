@@ -1,7 +1,7 @@
 -- A core in which an actor has a command more: it is settled, and has room for whatever it had room for.
-use Rattle.std.proofs.Common.{◌≡◌, ℕ, ◌<◌, ◌≤◌, List, [], ◌∷◌, ◌++◌, false, Option, Some, None, Result, Ok, Err, length, slice_get, slice_index_or, zero, suc, arith, sym, ◌∙◌, ap, subst, refl, inl, inr, ◌⊎◌}
+use Rattle.std.proofs.Common.{◌≡◌, ℕ, List, [], ◌∷◌, ◌++◌, false, Option, Some, None, Result, Ok, Err, slice_get, slice_index_or, zero, suc, sym, ◌∙◌, ap, subst, inl, inr}
 use Rattle.std.proofs.lemmas.List.{length-set}
-use Rattle.std.specs.Prelude.{IfSome, IsSome, OnErr}
+use Rattle.std.specs.Prelude.{IfSome, OnErr}
 use Rattle.gm_base.specs.Scripts.{Orders}
 use Rattle.gm_base.specs.declared.calls.Ioctl.TheVariants.{Region2}
 use Rattle.gm_base.specs.declared.calls.Region.{Region}
@@ -9,7 +9,6 @@ use Rattle.gm_base.specs.declared.script.Command.{Command}
 use Rattle.gm_base.specs.declared.script.Command.TheVariants.{Call as CallCommand}
 use Rattle.gm_base.specs.declared.values.Actor.{Actor}
 use Rattle.gm_base.specs.declared.values.Actor.TheVariants.{Vcpu, Caller}
-use Rattle.gm_base.specs.declared.values.Setup.{Setup}
 use Rattle.gm_callers.specs.Callers.{caller_at}
 use Rattle.gm_callers.specs.declared.caller.InProgress.{InProgress}
 use Rattle.gm_calls.specs.declared.judged.Judged.{Judged}
@@ -29,7 +28,7 @@ use Rattle.gm_turns.proofs.Longer.{list_longer, next_was, right_longer}
 use Rattle.gm_turns.proofs.Rooming.{bind_made, roomier, settled_still}
 use Rattle.gm_turns.specs.HasMoreRoom.{CoreHasMoreRoom}
 use Rattle.gm_turns.specs.Needs.{region_file}
-use Rattle.gm_turns.specs.Pushing.{HasRoomToBind, IsFor, IsLonger, callers_with, list_with, vcpus_with, with_command}
+use Rattle.gm_turns.specs.Pushing.{HasRoomToBind, IsFor, IsLonger, list_with, with_command}
 use Rattle.gm_turns.specs.Ready.{Commanded, CoreStands, IsAccess, IsIoctl, Settled}
 use Rattle.gm_turns.specs.Room.{CanBind, HasCallRoom, HasChangeRoom, HasOwnRoom, HasStepRoom, IsRoomyFor, orders_of}
 use Rattle.gm_turns.specs.Turning.{IsRoomier}

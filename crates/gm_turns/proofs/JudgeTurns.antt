@@ -43,7 +43,6 @@ use Rattle.gm_turns.proofs.StateQuiet as state
 use Rattle.gm_turns.specs.Judging.{answered_now, going_on}
 use Rattle.gm_turns.specs.Ready.{IsReady, Turned}
 use Rattle.gm_turns.specs.Room.{HasCallRoom, orders_of}
-use Rattle.gm_turns.specs.Standing.{memory_of}
 use Rattle.gm_turns.specs.declared.parts.Core.{Core}
 use Rattle.gm_vcpus.proofs.Stays as vcpus
 use Rattle.gm_words.specs.Banks.{word_in}

@@ -11,7 +11,7 @@ use Rattle.gm_flat.specs.RightHistory.{Each, Right}
 use Rattle.gm_flat.specs.RightOrder.{IsWaiting, RightOrder, StepIs, command_at, next_command}
 use Rattle.gm_flat.specs.declared.entry.Entry.{Entry}
 use Rattle.gm_flat.specs.declared.entry.What.{What}
-use Rattle.gm_flat.specs.declared.entry.What.TheVariants.{Enter, Flush, Miss, Sample, Look, Get, Install, Retry, Touch, Left, Judge, Begin, Acked, Change, Page, End, Answer, Free, Gone}
+use Rattle.gm_flat.specs.declared.entry.What.TheVariants.{Enter, Miss, Touch, Judge, Gone}
 use Rattle.gm_turns.specs.Pushing.{list_with, with_command}
 
 -- lists of which one has a command more

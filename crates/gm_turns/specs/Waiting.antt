@@ -1,5 +1,5 @@
 -- What a turn waits for.
-use Rattle.std.specs.Prelude.{◌≡◌, ℕ, List, true, false, ◌⊎◌, Some, None}
+use Rattle.std.specs.Prelude.{◌≡◌, List, true, false, ◌⊎◌, Some, None}
 use Rattle.std.specs.declared.option.Option.{Option}
 use Rattle.gm_base.specs.Scripts.{Orders}
 use Rattle.gm_base.specs.declared.values.Actor.{Actor}
