@@ -10,6 +10,3 @@ pub use crossing::machines_cross_threads;
 pub use gm_turns::{Blocker, How, Outcome};
 pub use laws::turns_play;
 pub use machine::Machine;
-
-#[cfg(test)]
-mod tests;

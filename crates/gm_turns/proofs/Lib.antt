@@ -18,6 +18,7 @@ pub mod GuestTurns
 pub mod HeldFrames
 pub mod Installing
 pub mod JudgeTurns
+pub mod LeafNames
 pub mod Letting
 pub mod NewFolios
 pub mod NewPages
