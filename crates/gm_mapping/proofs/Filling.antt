@@ -11,7 +11,7 @@ use Rattle.gm_base.specs.declared.numbers.TheConstants.{BUFFER_FILLS}
 use Rattle.gm_base.specs.declared.values.Actor.TheVariants.{Vcpu}
 use Rattle.gm_base.specs.declared.values.Kind.{Kind}
 use Rattle.gm_base.specs.declared.values.Level.{Level}
-use Rattle.gm_base.specs.declared.values.Level.TheVariants.{Small}
+use Rattle.gm_base.specs.declared.values.Level.TheVariants.{Small, Block}
 use Rattle.gm_base.specs.declared.values.Setup.{Setup}
 use Rattle.gm_flat.specs.FlatState.{Flat}
 use Rattle.gm_flat.specs.Histories.{Fault, Faulting, Gotten, Seen, fault}
@@ -35,7 +35,7 @@ use Rattle.gm_mapping.proofs.LeavesApart.{install_leaves}
 use Rattle.gm_mapping.proofs.Lists.{self, set_each}
 use Rattle.gm_mapping.proofs.Quiet.{seat_stays}
 use Rattle.gm_mapping.proofs.Serving.{ByLeaf, Serves}
-use Rattle.gm_mapping.specs.Alike.{BacksAt, FillsAre, GivesAs, IsAlike, LeafIs, leaf_of, over, place_by}
+use Rattle.gm_mapping.specs.Alike.{FillsAre, GivesAs, IsAlike, LeafIs, NamesLeaf, leaf_of, over}
 use Rattle.gm_mapping.specs.Mapping.{MappingStands, SeatIs}
 
 older_keep : (t u : Bool) (n : ℕ) (a : Aim) (level : Level) (f : Flat) (ms : List Mapping) → u ≡ false → fill_if (t && u) n a level f ms ≡ ms
@@ -117,10 +117,7 @@ filled_by_leaf {s = s} {m = m} t v a b value f past st lt x l names =
       seq_is = st.seq_is;
     }
 
--- an install of one page
-
-one_page : (page h : ℕ) → (leb page h && ltb h (page + 1)) ≡ true → page ≡ h
-one_page page h e = grind (arith, nat_tests)
+-- an install
 
 and_swap : (x y : Bool) → (x && y) ≡ (y && x)
 and_swap true true = refl
@@ -128,39 +125,23 @@ and_swap true false = refl
 and_swap false true = refl
 and_swap false false = refl
 
-abbrev map_of : ℕ → Kind → List Entry → Mapping
-map_of page kind past = record { made = length past; page = page; level = Small; kind = kind; gives = λ h. named (flat past) h }
+abbrev map_of : Level → ℕ → Kind → List Entry → Mapping
+map_of level page kind past = record { made = length past; page = page; level = level; kind = kind; gives = λ h. named (flat past) h }
 
--- a user page is one of the machine
-abbrev pub IsUserBelow : ℕ → Backing → Type 0
-IsUserBelow user (User page) = page < user
-IsUserBelow user (Folio folio) = Unit {0}
+same_pages : (level : Level) (page : ℕ) (kind : Kind) (b : Backing) (writable : Bool) → extent_of (leaf_of level page kind b writable) ≡ covered level page
+same_pages Small page kind b writable = refl
+same_pages Block page kind b writable = refl
 
--- what is named at the page now is what the leaf gives
-pub record NamesIt (page : ℕ) (b : Backing) (writable : Bool) (past : List Entry) : Type 0 where
-  pub name : Named
-  pub is_named : named (flat past) page ≡ Some name
-  pub backing_is : name.backing ≡ b
-  pub writable_is : name.writable ≡ writable
-
-zero_offset : (n p : ℕ) → n ≡ n + (p - p)
-zero_offset n p = omega arith
-
-backs_itself : (user page : ℕ) (b : Backing) → IsUserBelow user b → BacksAt user (place_by b) (page - page) b
-backs_itself user page (User u) h = (zero_offset u page, h)
-backs_itself user page (Folio fo) h = zero_offset fo.frame page
-
-new_alike : (user page : ℕ) (kind : Kind) (b : Backing) (writable : Bool) (past : List Entry) → IsUserBelow user b → NamesIt page b writable past → IsAlike user (leaf_of page kind b writable) (map_of page kind past)
-new_alike user page kind b writable past u n =
-    let here : GivesAs user (leaf_of page kind b writable) page (named (flat past) page) =
-    subst (λ (o : Option Named). GivesAs user (leaf_of page kind b writable) page o) (sym n.is_named)
-    (record { right_writable = n.writable_is; right_backing = subst (λ (x : Backing). BacksAt user (place_by b) (page - page) x) (sym n.backing_is) (backs_itself user page b u) }) in
+new_alike : (user : ℕ) (level : Level) (page : ℕ) (kind : Kind) (b : Backing) (writable : Bool) (past : List Entry) → NamesLeaf user (leaf_of level page kind b writable) (flat past) → IsAlike user (leaf_of level page kind b writable) (map_of level page kind past)
+new_alike user level page kind b writable past n =
+    let same = same_pages level page kind b writable in
+    let leaf : Leaf = leaf_of level page kind b writable in
     record {
       level_is = refl;
       kind_is = refl;
-      covers_is = λ h. refl;
-      meets_is = λ e. and_swap (ltb page e.hi) (ltb e.lo (page + 1));
-      gives_is = λ h c. subst (λ (x : ℕ). GivesAs user (leaf_of page kind b writable) x (named (flat past) x)) (one_page page h c) here;
+      covers_is = λ h. ap (λ (e : Extent). holds e h) same;
+      meets_is = λ e. and_swap (ltb leaf.first e.hi) (ltb e.lo (extent_of leaf).hi) ∙ ap (λ (x : Extent). meets e x) same;
+      gives_is = n;
     }
 
 -- what an install leaves of the memory unit
@@ -178,12 +159,12 @@ pub record HasItsGet (v page : ℕ) (kind : Kind) (past : List Entry) : Type 0 w
   pub fault_is : fault v past ≡ Faulting access missed sample look (Some gotten)
   pub kind_is : access.kind ≡ kind
 
-pub installed : {s : Setup} {m : Serving} (t v page : ℕ) (kind : Kind) (b : Backing) (writable : Bool) (n : Serving) (past : List Entry) → MappingStands s m past → HasItsGet v page kind past → IsUserBelow s.user b → NamesIt page b writable past → InstallsIn m n (leaf_of page kind b writable) → MappingStands s n (by t (Vcpu v) (Install page Small) ∷ past)
-installed {s = s} {m = m} t v page kind b writable n past st got below names i =
-    let e : Entry = by t (Vcpu v) (Install page Small) in
-    let alike = new_alike s.user page kind b writable past below names in
-    let made : leaves (e ∷ past) ≡ map_of page kind past ∷ off_extent (covered Small page) (leaves past) =
-    ap (λ (f : Fault). leaf_by (length past) page Small (flat past) f ++ off_extent (covered Small page) (leaves past)) got.fault_is ∙ ap (λ (k : Kind). map_of page k past ∷ off_extent (covered Small page) (leaves past)) got.kind_is in
+pub installed : {s : Setup} {m : Serving} (t v : ℕ) (level : Level) (page : ℕ) (kind : Kind) (b : Backing) (writable : Bool) (n : Serving) (past : List Entry) → MappingStands s m past → HasItsGet v page kind past → NamesLeaf s.user (leaf_of level page kind b writable) (flat past) → InstallsIn m n (leaf_of level page kind b writable) → MappingStands s n (by t (Vcpu v) (Install page level) ∷ past)
+installed {s = s} {m = m} t v level page kind b writable n past st got names i =
+    let e : Entry = by t (Vcpu v) (Install page level) in
+    let alike = new_alike s.user level page kind b writable past names in
+    let made : leaves (e ∷ past) ≡ map_of level page kind past ∷ off_extent (covered level page) (leaves past) =
+    ap (λ (f : Fault). leaf_by (length past) page level (flat past) f ++ off_extent (covered level page) (leaves past)) got.fault_is ∙ ap (λ (k : Kind). map_of level page k past ∷ off_extent (covered level page) (leaves past)) got.kind_is in
     let same : n ≡ record m { leaves = n.leaves; spare = n.spare } = i.rest in
     record {
       seat_count = ap (λ (z : Serving). length z.requests.seats) same ∙ st.seat_count;
@@ -192,7 +173,7 @@ installed {s = s} {m = m} t v page kind b writable n past st got below names i =
       seats_are = λ u d lu. subst (λ (r : Requests). SeatIs (get_or r.seats u d) u (e ∷ past)) (sym (ap (λ (z : Serving). z.requests) same)) (seat_stays (get_or m.requests.seats u d) u e past refl refl (st.seats_are u d lu));
       none_beyond = st.none_beyond;
       buffers_are = λ u d lu. subst (λ (bs : List (List Fill)). FillsAre s.user (get_or bs u d) (fills u past)) (sym (ap (λ (z : Serving). z.fills) same)) (st.buffers_are u d lu);
-      leaves_are = λ g. subst (λ (ms : List Mapping). LeafIs s.user (leaf_over n.leaves g) (over g ms)) (sym made) (install_leaves s.user (leaf_of page kind b writable) (map_of page kind past) m.leaves n.leaves past st.leaves_are alike refl i.over_is g);
+      leaves_are = λ g. subst (λ (ms : List Mapping). LeafIs s.user (leaf_over n.leaves g) (over g ms)) (sym made) (install_leaves s.user (leaf_of level page kind b writable) (map_of level page kind past) m.leaves n.leaves past st.leaves_are alike (same_pages level page kind b writable) i.over_is g);
       count_is = ap (λ (z : Serving). z.progress.count) same ∙ st.count_is;
       range_is = ap (λ (z : Serving). open_range z.progress) same ∙ st.range_is;
       seq_is = ap (λ (z : Serving). z.progress.seq) same ∙ st.seq_is;

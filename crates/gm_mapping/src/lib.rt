@@ -3,4 +3,4 @@
 
 mod leaf;
 
-pub use leaf::{place_of, small_leaf};
+pub use leaf::leaf_of;

@@ -27,7 +27,6 @@ pub record IsWithin (s : Setup) : Type 0 where
   pub some_vcpu : 1 ≤ s.vcpus
   pub vcpus : s.vcpus ≤ MOST_VCPUS
   pub callers : s.callers ≤ MOST_CALLERS
-  pub huge : s.huge ≡ false
 
 -- the setup is within the limits, each actor has a list of commands of its kind, each turn is of an actor, and there aren't
 -- too many commands or turns

@@ -4,7 +4,7 @@ use Rattle.std.specs.declared.option.Option.{Option}
 use Rattle.gm_base.specs.declared.values.Setup.{Setup}
 use Rattle.gm_base.specs.declared.numbers.TheConstants.{MOST_FRAMES, MOST_USER_PAGES, MOST_VCPUS, MOST_CALLERS}
 use Rattle.gm_script.specs.declared.error.Cause.{Cause}
-use Rattle.gm_script.specs.declared.error.Cause.TheVariants.{Machine, Word, Number, Limit, Unbuilt}
+use Rattle.gm_script.specs.declared.error.Cause.TheVariants.{Machine, Word, Number, Limit}
 use Rattle.gm_script.specs.declared.setup.Counts.{Counts}
 use Rattle.gm_script.specs.Split.{same_bytes, begins_with}
 use Rattle.gm_script.specs.Lines.{word_at}
@@ -38,14 +38,13 @@ counts_of words =
 unfoldable pub is_within : Counts → Bool
 is_within n = nat_le n.frames MOST_FRAMES && nat_le n.user MOST_USER_PAGES && not (nat_eq n.vcpus 0) && nat_le n.vcpus MOST_VCPUS && nat_le n.callers MOST_CALLERS
 
--- with huge=on it isn't built
-abbrev pub built_setup : Bool → Counts → Result Setup Cause
-built_setup true n = Err Unbuilt
-built_setup false n = Ok (record { frames = n.frames; user = n.user; vcpus = n.vcpus; callers = n.callers; huge = false })
+-- the setup with these numbers
+abbrev pub setup_by : Bool → Counts → Setup
+setup_by huge n = record { frames = n.frames; user = n.user; vcpus = n.vcpus; callers = n.callers; huge = huge }
 
 abbrev pub counted_setup : Bool → Option Counts → Result Setup Cause
 counted_setup huge None = Err Number
-counted_setup huge (Some n) = if not (is_within n) then Err Limit else built_setup huge n
+counted_setup huge (Some n) = if not (is_within n) then Err Limit else Ok (setup_by huge n)
 
 abbrev pub huge_setup : List (List ℕ) → Option Bool → Result Setup Cause
 huge_setup words None = Err Word

@@ -17,7 +17,6 @@ use thiserror::Error;
 /// - `Actor`: an actor's number isn't below the setup's count.
 /// - `Align`: the guest address of an access isn't a multiple of 8.
 /// - `Limit`: a number of `machine` is outside the limits, or the line makes the commands or turns too many.
-/// - `Unbuilt`: the line is right, and what it asks for, `huge=on`, isn't built yet.
 #[derive(Clone, Copy, Debug, PartialEq, Eq)]
 pub enum Cause {
     Bytes,
@@ -28,7 +27,6 @@ pub enum Cause {
     Actor,
     Align,
     Limit,
-    Unbuilt,
 }
 
 /// A script wasn't read: its first bad line, numbered from 1, with its cause; or memory ran out.

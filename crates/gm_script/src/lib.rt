@@ -17,8 +17,6 @@
 //! | `turn ACTOR`, `turn ACTOR K` | one turn, or K turns |
 //! | `kick vN` | one turn that kicks the vCPU |
 //! | `round K` | K times: for each vCPU in rising order a kick and a turn, then for each caller a turn |
-//!
-//! All of it is built but `huge=on`, whose cause is `unbuilt`.
 #![tactic(auto)]
 
 mod actors;

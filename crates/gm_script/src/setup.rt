@@ -1,9 +1,9 @@
 //! The `machine` line.
 
-ghost use Rattle.std.specs.Prelude.{◌≡◌, IfOk, Ok, drop, true, false};
+ghost use Rattle.std.specs.Prelude.{◌≡◌, IfOk, drop, true};
 ghost use Rattle.gm_script.specs.Lines.{words_of, word_at};
 ghost use Rattle.gm_script.specs.Numbers.{number_of};
-ghost use Rattle.gm_script.specs.Setups.{is_machine, huge_of, counts_of, is_within, built_setup, setup_of};
+ghost use Rattle.gm_script.specs.Setups.{is_machine, huge_of, counts_of, is_within, setup_by, setup_of};
 ghost use Rattle.gm_script.specs.Schedules.{IsWithin};
 
 use crate::error::Cause;
@@ -40,10 +40,7 @@ pub fn read_setup(line: &[u8]) -> Result<Setup, Cause>
     if !is_within(counts) {
         return Err(Cause::Limit);
     }
-    if huge {
-        return Err(Cause::Unbuilt);
-    }
-    Ok(setup_of_counts(counts))
+    Ok(setup_by(huge, counts))
 }
 
 #[tactic(auto, unfolding(crate::specs::Setups::is_machine))]
@@ -111,9 +108,9 @@ fn is_within(counts: Counts) -> bool
 
 /// The setup with these numbers.
 #[tactic(auto, unfolding(crate::specs::Setups::is_within))]
-fn setup_of_counts(counts: Counts) -> Setup
+fn setup_by(huge: bool, counts: Counts) -> Setup
     requires { is_within counts ≡ true }
-    ensures setup { Ok result ≡ built_setup false counts }
+    ensures setup { result ≡ setup_by huge counts }
     ensures within { IsWithin result }
 {
     Setup {
@@ -121,6 +118,6 @@ fn setup_of_counts(counts: Counts) -> Setup
         user: counts.user as u32,
         vcpus: counts.vcpus as u32,
         callers: counts.callers as u32,
-        huge: false,
+        huge,
     }
 }

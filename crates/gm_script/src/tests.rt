@@ -262,7 +262,7 @@ fn machine_lines(rt: HostRuntime) -> Result<(), Fail> {
         ),
         (
             b"machine frames=4 user=4 vcpus=1 callers=1 huge=on\n".as_slice(),
-            Some((1, Cause::Unbuilt)),
+            None,
         ),
         (
             b"# head\n machine  frames=0x10000 user=65536 vcpus=64 callers=16 huge=off \n".as_slice(),

@@ -1,6 +1,7 @@
 pub mod Accessed
 pub mod Alike
 pub mod Effecting
+pub mod LeafLevels
 pub mod Lending
 pub mod PagesAdded
 pub mod PlannedReads

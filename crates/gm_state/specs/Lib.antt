@@ -2,6 +2,7 @@ pub mod Accessing
 pub mod Applying
 pub mod HasMoreRoom
 pub mod Holding
+pub mod Levels
 pub mod Marked
 pub mod Paging
 pub mod Promised

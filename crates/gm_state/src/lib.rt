@@ -7,6 +7,7 @@ mod flags;
 mod folios;
 mod freed;
 mod laws;
+mod levels;
 mod marking;
 mod paging;
 mod reserving;

@@ -1,4 +1,5 @@
 pub mod Basics
+pub mod BlockFrames
 pub mod Blocks
 pub mod Caches
 pub mod Clearing

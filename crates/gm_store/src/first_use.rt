@@ -58,7 +58,7 @@ fn put_run(
 }
 
 // The pages of a block, as a number of which proofs don't see the digits.
-fn block_pages() -> u64
+pub(crate) fn block_pages() -> u64
     ensures { result ≡ BLOCK_PAGES }
 {
     BLOCK_PAGES

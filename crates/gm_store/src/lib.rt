@@ -3,6 +3,7 @@
 
 mod adding;
 mod binding;
+mod block_frames;
 mod cutting;
 mod first_use;
 mod holding;

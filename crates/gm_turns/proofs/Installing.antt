@@ -1,15 +1,20 @@
 -- A fault that installs its leaf.
-use Rattle.std.proofs.Common.{◌≡◌, ℕ, ◌+◌, ◌&&◌, ◌||◌, List, Bool, true, false, not, set, Option, Some, None, refl, ap, cond, eqb, subst, ◌∙◌}
-use Rattle.std.proofs.lemmas.Bool.{both_ways}
+use Rattle.std.proofs.Common.{◌≡◌, ℕ, ◌+◌, ◌&&◌, ◌||◌, List, Bool, true, false, not, set, Option, Some, None, refl, ap, cond, eqb, subst, sym, ◌∙◌}
 use Rattle.gm_base.specs.Aim.{Aim}
 use Rattle.gm_base.specs.declared.values.Actor.TheVariants.{Vcpu as OfVcpu}
 use Rattle.gm_base.specs.declared.values.Folio.{Folio}
-use Rattle.gm_base.specs.declared.values.Level.TheVariants.{Small}
+use Rattle.gm_base.specs.declared.values.Level.{Level}
+use Rattle.gm_base.specs.declared.values.Level.TheVariants.{Small, Block}
+use Rattle.gm_base.specs.declared.values.Setup.{Setup}
+use Rattle.gm_base.specs.Extent.{Extent}
 use Rattle.gm_callers.proofs.Stays as callers
 use Rattle.gm_fault.specs.declared.ticket.Ticket.{Ticket}
 use Rattle.gm_flat.specs.Attribute.{attr_of}
-use Rattle.gm_flat.specs.FlatState.{cached}
+use Rattle.gm_base.specs.declared.leaf.Leaf.{Leaf}
+use Rattle.gm_base.specs.declared.values.Kind.{Kind}
+use Rattle.gm_flat.specs.FlatState.{Flat, cached}
 use Rattle.gm_flat.specs.NamedPage.{unmarked}
+use Rattle.gm_flat.specs.Invalidation.{hull}
 use Rattle.gm_flat.specs.Replay.{flat}
 use Rattle.gm_flat.specs.RightLevel.{LevelIs}
 use Rattle.gm_flat.specs.Slots.{slot_over}
@@ -20,23 +25,25 @@ use Rattle.gm_flat.specs.declared.entry.What.TheVariants.{Install}
 use Rattle.gm_flat.specs.declared.views.Looked.{Looked}
 use Rattle.gm_flat.specs.declared.views.Sampled.{Sampled}
 use Rattle.gm_flat.specs.declared.views.SlotView.{SlotView}
-use Rattle.gm_base.specs.declared.leaf.Leaf.{Leaf}
 use Rattle.gm_inval.specs.Range.{open_range, range_holds}
 use Rattle.gm_laws.proofs.Fates.{named_folio}
 use Rattle.gm_laws.proofs.Frames.{cached_frames}
 use Rattle.gm_laws.proofs.Kit.{by}
 use Rattle.gm_laws.proofs.RuledIsRight.{right}
 use Rattle.gm_laws.specs.May.{May}
+use Rattle.gm_laws.specs.SlotsStand.{SlotsStand}
 use Rattle.gm_laws.specs.TouchFrames.{HasItsFrame}
-use Rattle.gm_mapping.proofs.Filling.{InstallsIn, IsUserBelow, installed}
-use Rattle.gm_mapping.specs.Alike.{leaf_of}
+use Rattle.gm_mapping.proofs.Filling.{InstallsIn, installed}
+use Rattle.gm_mapping.specs.Alike.{LieAlike, leaf_of}
 use Rattle.gm_mmu.specs.Served.{Serving}
 use Rattle.gm_state.specs.Holding.{IsReleasable, freed_by, released}
-use Rattle.gm_state.specs.Stand.{StateIs}
+use Rattle.gm_state.specs.Levels.{IsLevel}
+use Rattle.gm_state.specs.Stand.{Memory, StateIs}
 use Rattle.gm_state.specs.Views.{StateView}
 use Rattle.gm_store.proofs.Caches.{cached_has}
 use Rattle.gm_store.specs.Stored.{has_triple}
 use Rattle.gm_turns.proofs.FaultTurns.{can_be_seen}
+use Rattle.gm_turns.proofs.LeafNames.{IsUserBelow, lie_alike, names_leaf, new_leaf}
 use Rattle.gm_turns.proofs.Letting.{releasable, state_less}
 use Rattle.gm_turns.proofs.OneTurn.{one_entry}
 use Rattle.gm_turns.specs.Faulting.{HasGot, IsGot}
@@ -136,38 +143,52 @@ pub record StateAfter (k : Core) (b : Backing) (st : StateView) : Type 0 where
   pub slots_are : st.slots ≡ k.state.slots
   pub is : StateIs k.setup st (released b (memory_of k.setup k.log.past))
 
-pub install_turn : (k : Core) (v : ℕ) (a : Aim) (b : Backing) (m : Serving) (st : StateView) → IsReady k (OfVcpu v) → HasGot (vcpu_at k.vcpus v).fault a b k.mmu.progress false → InstallsIn k.mmu m (leaf_of a.page a.kind b (may_be_written a.kind (slot_over (flat k.log.past).slots a.page))) → StateAfter k b st → Turned k (noted (installed_core k v m st) (OfVcpu v) (Install a.page Small)) (OfVcpu v) false
-install_turn k v a b m st r h i after =
+pub install_turn : (k : Core) (v : ℕ) (a : Aim) (b : Backing) (level : Level) (m : Serving) (st : StateView) → IsReady k (OfVcpu v) → HasGot (vcpu_at k.vcpus v).fault a b k.mmu.progress false → IsLevel level k.setup.huge a.page (flat k.log.past) (hull k.log.past) → InstallsIn k.mmu m (new_leaf level a b (flat k.log.past)) → StateAfter k b st → Turned k (noted (installed_core k v m st) (OfVcpu v) (Install a.page level)) (OfVcpu v) false
+install_turn k v a b level m st r h l i after =
     let stands = r.settled.stands in
     let past : List Entry = k.log.past in
     let f = having k v a b false r h in
     let p = putting k v a b r f in
-    let e : Entry = by (k.turns + 1) (OfVcpu v) (Install a.page Small) in
+    let e : Entry = by (k.turns + 1) (OfVcpu v) (Install a.page level) in
     let g = flight v f.ticket (at.Got f.sampled f.looked b) f.here.stand f.here.actor f.here.in_flight f.here.stage in
-    one_entry k (noted (installed_core k v m st) (OfVcpu v) (Install a.page Small)) (OfVcpu v) (Install a.page Small) false r
+    one_entry k (noted (installed_core k v m st) (OfVcpu v) (Install a.page level)) (OfVcpu v) (Install a.page level) false r
     (record {
       stands = record {
-        vcpus = moves.installs (k.turns + 1) v a.page Small stands.vcpus r.actor_is;
+        vcpus = moves.installs (k.turns + 1) v a.page level stands.vcpus r.actor_is;
         callers = callers.quiet e past refl stands.callers;
-        mapping = installed (k.turns + 1) v a.page a.kind b (may_be_written a.kind (slot_over (flat past).slots a.page)) m past stands.mapping
+        mapping = installed (k.turns + 1) v level a.page a.kind b (may_be_written a.kind (slot_over (flat past).slots a.page)) m past stands.mapping
             (record { access = f.ticket.access; missed = g.missed; sample = Some g.sample; look = Some g.seen; gotten = g.gotten; fault_is = g.fault_is; kind_is = ap (λ (z : Aim). z.kind) f.access_is })
-            (user_below k v a b r p)
-            (record { name = p.gives; is_named = p.named_is; backing_is = p.backing_is; writable_is = p.writable_is })
+            (names_leaf level k.setup.huge k.setup.user a b (flat past) (hull past) (can_be_seen k v r) p (user_below k v a b r p) l)
             i;
         state = state_less k.setup k.state st b e past
-            (record { flat_is = refl; words_are = λ serial word. refl; user_are = λ page word. refl; holds_are = λ serial. holds_install k.setup k.vcpus past serial (k.turns + 1) v f.ticket f.sampled f.looked b a.page Small f.here })
+            (record { flat_is = refl; words_are = λ serial word. refl; user_are = λ page word. refl; holds_are = λ serial. holds_install k.setup k.vcpus past serial (k.turns + 1) v f.ticket f.sampled f.looked b a.page level f.here })
             (none_freed k a b p) stands.state after.slots_are after.is;
       };
       past_is = refl;
       orders = refl;
       turns = refl;
     })
-    (subst (λ (z : Aim). May (orders_of k) (Install z.page Small) (OfVcpu v) past) f.access_is
-    (may_install (orders_of k) k.setup k.vcpus past v f.ticket f.sampled f.looked b k.mmu.progress Small f.here stands.mapping.range_is stands.mapping.seq_is f.stale_is (small_only k v f.ticket.access.page r))) refl refl refl tt
+    (subst (λ (z : Aim). May (orders_of k) (Install z.page level) (OfVcpu v) past) f.access_is
+    (may_install (orders_of k) k.setup k.vcpus past v f.ticket f.sampled f.looked b k.mmu.progress level f.here stands.mapping.range_is stands.mapping.seq_is f.stale_is (subst (λ (z : Aim). LevelIs level k.setup.huge z.page past) (sym f.access_is) (level_is level k.setup.huge a.page past l)))) refl refl refl tt
   where
-    small_only : (k : Core) (v page : ℕ) → IsReady k (OfVcpu v) → LevelIs Small k.setup.huge page k.log.past
-    small_only k v page r = λ w. both_ways k.setup.huge r.settled.limits.huge w.is_huge
+    level_is : (level : Level) (huge : Bool) (page : ℕ) (past : List Entry) → IsLevel level huge page (flat past) (hull past) → LevelIs level huge page past
+    level_is Small huge page past l = l
+    level_is Block huge page past l = l
+
+-- the level that is asked for is the rule's
+pub level_asked : (k : Core) (v : ℕ) (a : Aim) (level : Level) (page : ℕ) (range : Option Extent) → IsReady k (OfVcpu v) → page ≡ a.page → range ≡ open_range k.mmu.progress → ((s : Setup) (m : Memory) → StateIs s k.state m → SlotsStand m.stored.flat → IsLevel level k.setup.huge page m.stored.flat range) → IsLevel level k.setup.huge a.page (flat k.log.past) (hull k.log.past)
+level_asked k v a level page range r e g h =
+    subst (λ (p : ℕ). IsLevel level k.setup.huge p (flat k.log.past) (hull k.log.past)) e
+    (subst (λ (x : Option Extent). IsLevel level k.setup.huge page (flat k.log.past) x) (g ∙ r.settled.stands.mapping.range_is)
+    (h k.setup (memory_of k.setup k.log.past) r.settled.stands.state.is (can_be_seen k v r).stand))
+
+-- a leaf of a block lies as its backing does
+pub may_make_leaf : (k : Core) (v : ℕ) (a : Aim) (b : Backing) (level : Level) → IsReady k (OfVcpu v) → HasGot (vcpu_at k.vcpus v).fault a b k.mmu.progress false → IsLevel level k.setup.huge a.page (flat k.log.past) (hull k.log.past) → level ≡ Block → LieAlike a.page b
+may_make_leaf k v a b level r h l e = lie_alike k.setup.huge a b (flat k.log.past) (hull k.log.past) (putting k v a b r (having k v a b false r h)) (subst (λ (x : Level). IsLevel x k.setup.huge a.page (flat k.log.past) (hull k.log.past)) e l)
 
 -- the leaf that is installed
-pub leaf_is : (a : Aim) (b : Backing) (slots : List SlotView) (page : ℕ) (o : Option SlotView) (leaf : Leaf) → leaf ≡ leaf_of a.page a.kind b (may_be_written a.kind o) → o ≡ slot_over slots page → page ≡ a.page → leaf ≡ leaf_of a.page a.kind b (may_be_written a.kind (slot_over slots a.page))
-leaf_is a b slots page o leaf e g h = e ∙ ap (λ (x : Option SlotView). leaf_of a.page a.kind b (may_be_written a.kind x)) (g ∙ ap (λ (p : ℕ). slot_over slots p) h)
+pub leaf_is : (level : Level) (a : Aim) (b : Backing) (f : Flat) (page : ℕ) (kind : Kind) (o : Option SlotView) (written : Bool) (leaf : Leaf) → leaf ≡ leaf_of level page kind b written → page ≡ a.page → kind ≡ a.kind → written ≡ may_be_written kind o → o ≡ slot_over f.slots page → leaf ≡ new_leaf level a b f
+leaf_is level a b f page kind o written leaf e g h w n =
+    let slot : o ≡ slot_over f.slots a.page = n ∙ ap (λ (p : ℕ). slot_over f.slots p) g in
+    let writes : written ≡ may_be_written a.kind (slot_over f.slots a.page) = w ∙ (ap (λ (k : Kind). may_be_written k o) h ∙ ap (may_be_written a.kind) slot) in
+    e ∙ (ap (λ (p : ℕ). leaf_of level p kind b written) g ∙ (ap (λ (k : Kind). leaf_of level a.page k b written) h ∙ ap (λ (x : Bool). leaf_of level a.page a.kind b x) writes))

@@ -20,6 +20,7 @@ pub mod GuestTurns
 pub mod HeldFrames
 pub mod Installing
 pub mod JudgeTurns
+pub mod LeafNames
 pub mod Letting
 pub mod Longer
 pub mod NewFolios

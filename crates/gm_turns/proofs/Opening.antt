@@ -75,7 +75,7 @@ commands s h = record {
 }
 
 limits_are : (s : Schedule) → IsScript s → IsWithinLimits s.orders.setup
-limits_are s h = record { frames = h.setup.frames; user = h.setup.user; vcpus = h.setup.vcpus; callers = h.setup.callers; huge = h.setup.huge }
+limits_are s h = record { frames = h.setup.frames; user = h.setup.user; vcpus = h.setup.vcpus; callers = h.setup.callers }
 
 state_opens : (s : Setup) (st : StateView) → StateIs s st at_start → st.slots.generation ≡ 0 → StateStands s st []
 state_opens s st h g = record {

@@ -48,7 +48,6 @@ pub record IsWithinLimits (s : Setup) : Type 0 where
   pub user : s.user ≤ MOST_USER_PAGES
   pub vcpus : s.vcpus ≤ MOST_VCPUS
   pub callers : s.callers ≤ MOST_CALLERS
-  pub huge : s.huge ≡ false
 
 -- between two turns
 pub record Settled (k : Core) : Type 0 where

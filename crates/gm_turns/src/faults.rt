@@ -10,7 +10,6 @@ ghost use Rattle.gm_flat.specs.RightLook.{id_of, file_of};
 ghost use Rattle.gm_flat.specs.declared.effect.Backing.TheVariants as place;
 ghost use Rattle.gm_flat.specs.declared.entry.What.TheVariants as what;
 ghost use Rattle.gm_laws.specs.May.{May};
-ghost use Rattle.gm_mapping.specs.Alike.{leaf_of, place_by};
 ghost use Rattle.gm_turns.specs.Faulting.{HasGot, HasLooked, HasRoute, IsAtStage, IsSampled, IsStale};
 ghost use Rattle.gm_turns.specs.Ready.{IsReady, Turned};
 ghost use Rattle.gm_turns.specs.Room.{orders_of};
@@ -22,9 +21,10 @@ ghost use Rattle.gm_vcpus.specs.declared.stage.Stage.TheVariants as at;
 
 use crate::note::note;
 use crate::parts::Core;
-use gm_base::{Access, Actor, Folio, KVM_MEM_READONLY, Kind, Leaf, Level, Page, Place};
+use gm_base::{Access, Actor, Folio, KVM_MEM_READONLY, Kind, Page};
 use gm_fault::{Route, Ticket, decide};
 use gm_flat::{Backing, Exit, Looked, Sampled, SlotView, What};
+use gm_mapping::leaf_of;
 use gm_vcpus::{Stage, stage_of};
 
 /// Takes the next turn of a vCPU with this fault in flight.
@@ -202,29 +202,6 @@ fn get_file(core: &mut Core, v: u32, file: u32, index: u64)
     }
 }
 
-// The leaf of a page that is backed so, under this slot.
-fn leaf_of(access: Access, backing: Backing, slot: Option<SlotView>) -> Leaf
-    ensures { result ≡ leaf_of access.page access.kind backing (may_be_written access.kind slot) }
-{
-    Leaf {
-        first: access.page().number(),
-        level: Level::Small,
-        kind: access.kind(),
-        place: place_of(backing),
-        writable: is_writable(access.kind(), slot),
-    }
-}
-
-// The place of a backing.
-fn place_of(backing: Backing) -> Place
-    ensures { result ≡ place_by backing }
-{
-    match backing {
-        Backing::User(page) => Place::User(page),
-        Backing::Folio(folio) => Place::Frame(folio.frame),
-    }
-}
-
 // Whether guests may write a page of this kind under this slot.
 fn is_writable(kind: Kind, slot: Option<SlotView>) -> bool
     ensures { result ≡ may_be_written kind slot }
@@ -242,19 +219,14 @@ fn install(core: &mut Core, v: u32, access: Access, backing: Backing)
     requires got { HasGot (vcpu_at core.old.vcpus v).fault access backing core.old.mmu.progress false }
     ensures { Turned core.old core.new (Vcpu v) false }
 {
-    let page = access.page();
+    let (page, kind) = (access.page(), access.kind());
+    let level = core.state.level(core.setup.huge, page, core.mmu.hull());
+    let writable = is_writable(kind, core.state.find(page));
     core.mmu
-        .install(leaf_of(access, backing, core.state.find(page)));
+        .install(leaf_of(level, page, kind, backing, writable));
     core.state.release(backing);
     core.vcpus.settle(v);
-    note(
-        core,
-        Actor::Vcpu(v),
-        What::Install {
-            page,
-            level: Level::Small,
-        },
-    );
+    note(core, Actor::Vcpu(v), What::Install { page, level });
 }
 
 // A fault that is stale ends, and its command is tried again. The folio whose last hold ends so is freed, where it

@@ -2,7 +2,7 @@
 use Rattle.std.specs.Prelude.{ℕ, List, [], ◌∷◌, codes}
 use Rattle.std.specs.Fmt.{decimal}
 use Rattle.gm_script.specs.declared.error.Cause.{Cause}
-use Rattle.gm_script.specs.declared.error.Cause.TheVariants.{Bytes, Cut, Machine, Word, Number, Actor, Align, Limit, Unbuilt}
+use Rattle.gm_script.specs.declared.error.Cause.TheVariants.{Bytes, Cut, Machine, Word, Number, Actor, Align, Limit}
 use Rattle.gm_text.specs.Text.{joined}
 
 abbrev pub cause_text : Cause → List ℕ
@@ -14,7 +14,6 @@ cause_text Number = codes "number"
 cause_text Actor = codes "actor"
 cause_text Align = codes "align"
 cause_text Limit = codes "limit"
-cause_text Unbuilt = codes "unbuilt"
 
 abbrev pub refusal_text : ℕ → Cause → List ℕ
 refusal_text line cause = joined (codes "bad line=" ∷ decimal line ∷ codes " cause=" ∷ cause_text cause ∷ codes "\n" ∷ [])

@@ -22,7 +22,6 @@ fn cause_word(cause: Cause) -> &'static [u8]
         Cause::Actor => b"actor",
         Cause::Align => b"align",
         Cause::Limit => b"limit",
-        Cause::Unbuilt => b"unbuilt",
     }
 }
 
