@@ -11,20 +11,21 @@ use Rattle.gm_flat.specs.InTypes.{roomless}
 use Rattle.gm_flat.specs.Plain.{IsPlainWhat}
 use Rattle.gm_flat.specs.declared.entry.Entry.{Entry}
 use Rattle.gm_flat.specs.declared.entry.What.{What}
-use Rattle.gm_text.specs.Text.{actor_letter, actor_number, end_text, entry_text, machine_text, what_text}
+use Rattle.gm_text.specs.Text.{actor_letter, actor_number, end_text, line_text, machine_text}
+use Rattle.gm_history.specs.declared.given.Run.{Run}
+use Rattle.gm_history.specs.declared.version.Version.{Version}
 use Rattle.gm_history.specs.Cuts.{strip}
 use Rattle.gm_history.specs.Fields.{U64, OfActor, Nothing, after}
-use Rattle.gm_history.specs.Lines.{Counts, counts_of, end_pieces, entry_by, entry_of, head_pieces, if_within, is_within, machine_of, machine_pieces, setup_by, setup_of}
+use Rattle.gm_history.specs.Lines.{Counts, counts_of, end_pieces, entry_by, entry_in, head_pieces, if_within, is_within, machine_of, machine_pieces, setup_by, setup_of}
 use Rattle.gm_history.specs.Numerals.{Got, got, with_got, with_rest, number_at}
 use Rattle.gm_history.specs.Patterns.{Say, Holes, AreHolesRanged, parse, weave, whole}
 use Rattle.gm_history.specs.Ranges.{IsEntryRanged, IsU64, IsWithin}
-use Rattle.gm_history.specs.Whats.{what_of}
+use Rattle.gm_history.specs.OldWhats.{what_in}
 use Rattle.gm_history.proofs.FieldReads.{none_some, some_is, strip_gives}
 use Rattle.gm_history.proofs.NumberReads.{lacks, lacks_append}
+use Rattle.gm_history.proofs.OldReads.{IsSaid, what_in_gives, what_in_lacks, what_in_sound, what_text_in}
+use Rattle.gm_history.proofs.Runs.{AreSmall}
 use Rattle.gm_history.proofs.Weaving.{parse_more, parse_sound, weave_lacks, whole_gives, whole_sound}
-use Rattle.gm_history.proofs.WhatLines.{what_lacks}
-use Rattle.gm_history.proofs.WhatReads.{what_sound}
-use Rattle.gm_history.proofs.WhatTexts.{what_gives}
 
 abbrev pub entry : ℕ → Actor → What → Entry
 entry turn actor what = record { turn = turn; actor = actor; what = what }
@@ -36,50 +37,52 @@ abbrev head : Entry → Holes head_pieces
 head e = (e.turn, (e.actor, (tt, tt)))
 
 -- an entry's line without its newline
-abbrev pub entry_line : Entry → List ℕ
-entry_line e = weave head_pieces (head e) ++ what_text e.what
+abbrev pub entry_line : Version → Entry → List ℕ
+entry_line version e = weave head_pieces (head e) ++ what_text_in version e.what
 
-pub entry_grouped : (e : Entry) (x : List ℕ) → entry_text e ++ x ≡ entry_line e ++ (10 ∷ x)
-entry_grouped e x = simp append_assoc refl
+pub entry_grouped : (version : Version) (e : Entry) (x : List ℕ) → line_text e (what_text_in version e.what) ++ x ≡ entry_line version e ++ (10 ∷ x)
+entry_grouped version e x = simp append_assoc refl
 
 word_only : (word x : List ℕ) → after word Nothing (word ++ x) ≡ Some (got tt x)
 unfolding after
 word_only word x = ap (λ (o : Option (List ℕ)). with_rest o (λ rest. Some (got tt rest))) (strip_gives word x)
 
-head_right : (e : Entry) (w : List ℕ) → entry_line e ≡ decimal e.turn ++ (codes " " ++ ((actor_letter e.actor ++ decimal (actor_number e.actor)) ++ (codes " " ++ what_text e.what)))
-head_right e w = simp append_assoc refl
+head_right : (version : Version) (e : Entry) → entry_line version e ≡ decimal e.turn ++ (codes " " ++ ((actor_letter e.actor ++ decimal (actor_number e.actor)) ++ (codes " " ++ what_text_in version e.what)))
+head_right version e = simp append_assoc refl
 
-pub entry_gives : (e : Entry) → IsPlainWhat e.what → IsEntryRanged e → entry_of (entry_line e) ≡ Some (roomless_entry e)
-unfolding entry_of
-entry_gives e i r =
-    let next : Holes head_pieces → List ℕ → Option Entry = λ h rest. entry_by h.0 h.1.0 (what_of rest) in
-    ap (λ (l : List ℕ). parse head_pieces l next) (head_right e [])
-    ∙ parse_more [] U64 (Say (codes " ") OfActor ∷ Say (codes " ") Nothing ∷ []) e.turn (codes " " ++ ((actor_letter e.actor ++ decimal (actor_number e.actor)) ++ (codes " " ++ what_text e.what))) next r.0 refl
-    ∙ parse_more (codes " ") OfActor (Say (codes " ") Nothing ∷ []) e.actor (codes " " ++ what_text e.what) (λ h more. next (e.turn, h) more) r.1 refl
-    ∙ ap (λ (o : Option (Got (Unit {0}))). with_got o (λ value rest. next (e.turn, (e.actor, (value, tt))) rest)) (word_only (codes " ") (what_text e.what))
-    ∙ ap (entry_by e.turn e.actor) (what_gives e.what i r.2)
+pub entry_gives : (version : Version) (runs : List Run) (e : Entry) → IsPlainWhat e.what → IsEntryRanged e → IsSaid version runs e.what → entry_in version runs (entry_line version e) ≡ Some (roomless_entry e)
+unfolding entry_in
+entry_gives version runs e i r s =
+    let next : Holes head_pieces → List ℕ → Option Entry = λ h rest. entry_by h.0 h.1.0 (what_in version runs rest) in
+    let what : List ℕ = what_text_in version e.what in
+    ap (λ (l : List ℕ). parse head_pieces l next) (head_right version e)
+    ∙ parse_more [] U64 (Say (codes " ") OfActor ∷ Say (codes " ") Nothing ∷ []) e.turn (codes " " ++ ((actor_letter e.actor ++ decimal (actor_number e.actor)) ++ (codes " " ++ what))) next r.0 refl
+    ∙ parse_more (codes " ") OfActor (Say (codes " ") Nothing ∷ []) e.actor (codes " " ++ what) (λ h more. next (e.turn, h) more) r.1 refl
+    ∙ ap (λ (o : Option (Got (Unit {0}))). with_got o (λ value rest. next (e.turn, (e.actor, (value, tt))) rest)) (word_only (codes " ") what)
+    ∙ ap (entry_by e.turn e.actor) (what_in_gives version runs e.what i r.2 s)
 
-pub entry_lacks : (e : Entry) → IsPlainWhat e.what → IsEntryRanged e → lacks 10 (entry_line e) ≡ true
-entry_lacks e i r = lacks_append 10 (weave head_pieces (head e)) (what_text e.what) (weave_lacks 10 head_pieces (head e) (omega arith) (r.0, (r.1, (tt, tt))) refl) (what_lacks e.what i r.2)
+pub entry_lacks : (version : Version) (e : Entry) → IsPlainWhat e.what → IsEntryRanged e → lacks 10 (entry_line version e) ≡ true
+entry_lacks version e i r = lacks_append 10 (weave head_pieces (head e)) (what_text_in version e.what) (weave_lacks 10 head_pieces (head e) (omega arith) (r.0, (r.1, (tt, tt))) refl) (what_in_lacks version e.what i r.2)
 
 -- what an entry's line says
-pub record SaidEntry (line : List ℕ) (e : Entry) : Type 0 where
-  pub text : entry_line e ≡ line
+pub record SaidEntry (version : Version) (runs : List Run) (line : List ℕ) (e : Entry) : Type 0 where
+  pub text : entry_line version e ≡ line
   pub plain : IsPlainWhat e.what
   pub ranged : IsEntryRanged e
+  pub said : IsSaid version runs e.what
 
 entry_by_sound : (turn : ℕ) (actor : Actor) (o : Option What) (e : Entry) → entry_by turn actor o ≡ Some e → (w : What) × (o ≡ Some w) × (entry turn actor w ≡ e)
 entry_by_sound turn actor None e h = none_some h
 entry_by_sound turn actor (Some w) e h = (w, refl, some_is h)
 
-pub entry_sound : (line : List ℕ) (e : Entry) → entry_of line ≡ Some e → SaidEntry line e
-unfolding entry_of
-entry_sound line e h =
-    let f = parse_sound head_pieces line (λ h rest. entry_by h.0 h.1.0 (what_of rest)) e h in
-    let a = entry_by_sound f.holes.0 f.holes.1.0 (what_of f.rest) e f.value in
-    let s = what_sound f.rest a.0 a.1 in
-    subst (SaidEntry line) a.2
-    (record { text = ap (λ (l : List ℕ). weave head_pieces f.holes ++ l) s.text ∙ sym f.text; plain = s.plain; ranged = (f.ranged.0, f.ranged.1.0, s.ranged) })
+pub entry_sound : (version : Version) (runs : List Run) (line : List ℕ) (e : Entry) → AreSmall runs → entry_in version runs line ≡ Some e → SaidEntry version runs line e
+unfolding entry_in
+entry_sound version runs line e small h =
+    let f = parse_sound head_pieces line (λ h rest. entry_by h.0 h.1.0 (what_in version runs rest)) e h in
+    let a = entry_by_sound f.holes.0 f.holes.1.0 (what_in version runs f.rest) e f.value in
+    let s = what_in_sound version runs f.rest a.0 small a.1 in
+    subst (SaidEntry version runs line) a.2
+    (record { text = ap (λ (l : List ℕ). weave head_pieces f.holes ++ l) s.text ∙ sym f.text; plain = s.plain; ranged = (f.ranged.0, f.ranged.1.0, s.ranged); said = s.said })
 
 -- the `machine` line
 abbrev machine : Setup → Holes machine_pieces
@@ -171,6 +174,6 @@ pub end_lacks : (turns entries : ℕ) → IsU64 turns → IsU64 entries → lack
 end_lacks turns entries p q = weave_lacks 10 end_pieces (turns, (entries, tt)) (omega arith) (p, (q, tt)) refl
 
 -- it is no entry's line
-pub end_no_entry : (turns entries : ℕ) → entry_of (end_line turns entries) ≡ None
-unfolding entry_of after strip number_at
-end_no_entry turns entries = refl
+pub end_no_entry : (version : Version) (runs : List Run) (turns entries : ℕ) → entry_in version runs (end_line turns entries) ≡ None
+unfolding entry_in after strip number_at
+end_no_entry version runs turns entries = refl

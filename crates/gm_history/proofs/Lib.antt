@@ -1,3 +1,5 @@
+pub mod Starts
+pub mod Gave
 pub mod Splits
 pub mod Readings
 pub mod NumberReads
@@ -10,8 +12,13 @@ pub mod SpanReads
 pub mod WhatReads
 pub mod WhatTexts
 pub mod WhatLines
+pub mod Runs
+pub mod OldReads
 pub mod EntryReads
 pub mod Judging
 pub mod SameLines
 pub mod BadLines
 pub mod Reports
+pub mod GivenFrames
+pub mod RightUp
+pub mod Ups

@@ -4,8 +4,10 @@ use Rattle.std.proofs.lemmas.Bool.{and_parts}
 use Rattle.std.proofs.lemmas.Bool.Decides.{nat_tests}
 use Rattle.gm_base.specs.declared.values.Setup.{Setup}
 use Rattle.gm_flat.specs.declared.entry.Entry.{Entry}
+use Rattle.gm_history.specs.declared.version.Version.{Version}
 use Rattle.gm_history.specs.Cuts.{split_at, onto_first}
-use Rattle.gm_history.specs.Lines.{Counts, counts_of, entry_of, setup_of}
+use Rattle.gm_history.specs.Given.{given}
+use Rattle.gm_history.specs.Lines.{Counts, counts_of, entry_in, setup_of}
 use Rattle.gm_history.specs.Reading.{Verdict, Good, Bad, entry_or, if_more, is_header, last_line, lines_on, machine_on, setup_or, told_at, told_on}
 use Rattle.gm_history.specs.TextForm.{Told, last_turn, lines_text}
 use Rattle.gm_history.proofs.NumberReads.{lacks}
@@ -69,9 +71,9 @@ pub entry_bad : (o : Option Entry) (next : Entry → Verdict) (other : Verdict) 
 entry_bad None next other n P p q e = q refl e
 entry_bad (Some f) next other n P p q e = p f refl e
 
-pub setup_bad : (o : Option Setup) (lines : List (List ℕ)) (n : ℕ) (P : Type 0) → ((s : Setup) → o ≡ Some s → told_on s lines [] ≡ Bad n → P) → (o ≡ None → 2 ≡ n → P) → setup_or o lines ≡ Bad n → P
-setup_bad None lines n P p q e = q refl (bad_is e)
-setup_bad (Some s) lines n P p q e = p s refl e
+pub setup_bad : (version : Version) (o : Option Setup) (lines : List (List ℕ)) (n : ℕ) (P : Type 0) → ((s : Setup) → o ≡ Some s → told_on version s lines [] ≡ Bad n → P) → (o ≡ None → 2 ≡ n → P) → setup_or version o lines ≡ Bad n → P
+setup_bad version None lines n P p q e = q refl (bad_is e)
+setup_bad version (Some s) lines n P p q e = p s refl e
 
 pub header_bad : (t : Bool) (v : Verdict) (n : ℕ) (P : Type 0) → (t ≡ true → v ≡ Bad n → P) → (t ≡ false → 1 ≡ n → P) → cond t v (Bad 1) ≡ Bad n → P
 header_bad true v n P p q e = p refl e
@@ -82,13 +84,13 @@ last_late s es o n (Here h f) = omega (arith, h)
 last_late s es o n (Next c p q r h) = omega (arith, h)
 
 -- the bad line is not one before these
-pub bad_late : (s : Setup) (ps : List (List ℕ)) (done : List Entry) (n : ℕ) → told_on s ps done ≡ Bad n → length done + 3 ≤ n
-bad_late s [] done n e = let k : length done + 3 ≡ n = bad_is e in omega (arith, k)
-bad_late s (line ∷ lines) done n e =
-    more_bad (length done + 3) lines (entry_or (entry_of line) (λ f. told_on s lines (done ++ f ∷ [])) (last_line s done (counts_of line) lines)) n (length done + 3 ≤ n)
+pub bad_late : (version : Version) (s : Setup) (ps : List (List ℕ)) (done : List Entry) (n : ℕ) → told_on version s ps done ≡ Bad n → length done + 3 ≤ n
+bad_late version s [] done n e = let k : length done + 3 ≡ n = bad_is e in omega (arith, k)
+bad_late version s (line ∷ lines) done n e =
+    more_bad (length done + 3) lines (entry_or (entry_in version (given done) line) (λ f. told_on version s lines (done ++ f ∷ [])) (last_line s done (counts_of line) lines)) n (length done + 3 ≤ n)
     (λ z h. omega (arith, h))
-    (λ k. entry_bad (entry_of line) (λ f. told_on s lines (done ++ f ∷ [])) (last_line s done (counts_of line) lines) n (length done + 3 ≤ n)
-    (λ f p q. omega (arith, length_push done f, bad_late s lines (done ++ f ∷ []) n q))
+    (λ k. entry_bad (entry_in version (given done) line) (λ f. told_on version s lines (done ++ f ∷ [])) (last_line s done (counts_of line) lines) n (length done + 3 ≤ n)
+    (λ f p q. omega (arith, length_push done f, bad_late version s lines (done ++ f ∷ []) n q))
     (λ p q. last_late s done (counts_of line) n (last_bad s done (counts_of line) lines n q)) k) e
 
 pub no_lines : (lines : List (List ℕ)) → lines ≡ [] → length lines ≡ 0
@@ -99,12 +101,12 @@ last_few : (s : Setup) (es : List Entry) (o : Option Counts) (n : ℕ) → LastB
 last_few s es o n (Here h f) = omega (arith, h)
 last_few s es o n (Next c p q r h) = omega (arith, h)
 
-pub bad_few : (s : Setup) (ps : List (List ℕ)) (done : List Entry) (n : ℕ) → 0 < length ps → told_on s ps done ≡ Bad n → n ≤ length done + 2 + length ps
-bad_few s [] done n l e = absurd (omega arith)
-bad_few s (line ∷ []) done n l e = let k : length done + 3 ≡ n = bad_is e in omega (arith, k)
-bad_few s (line ∷ (next ∷ lines)) done n l e =
-    entry_bad (entry_of line) (λ f. told_on s (next ∷ lines) (done ++ f ∷ [])) (last_line s done (counts_of line) (next ∷ lines)) n (n ≤ length done + 2 + length (line ∷ (next ∷ lines)))
-    (λ f p q. omega (arith, length_push done f, bad_few s (next ∷ lines) (done ++ f ∷ []) n (omega arith) q))
+pub bad_few : (version : Version) (s : Setup) (ps : List (List ℕ)) (done : List Entry) (n : ℕ) → 0 < length ps → told_on version s ps done ≡ Bad n → n ≤ length done + 2 + length ps
+bad_few version s [] done n l e = absurd (omega arith)
+bad_few version s (line ∷ []) done n l e = let k : length done + 3 ≡ n = bad_is e in omega (arith, k)
+bad_few version s (line ∷ (next ∷ lines)) done n l e =
+    entry_bad (entry_in version (given done) line) (λ f. told_on version s (next ∷ lines) (done ++ f ∷ [])) (last_line s done (counts_of line) (next ∷ lines)) n (n ≤ length done + 2 + length (line ∷ (next ∷ lines)))
+    (λ f p q. omega (arith, length_push done f, bad_few version s (next ∷ lines) (done ++ f ∷ []) n (omega arith) q))
     (λ p q. omega (arith, last_few s done (counts_of line) n (last_bad s done (counts_of line) (next ∷ lines) n q))) e
 
 -- the lines up to the bad one are bad, whatever follows them
@@ -140,53 +142,53 @@ same_next : (s : Setup) (es : List Entry) (o : Option Counts) (l : List ℕ) (xs
 same_next s es o l xs q qs n h (Here k f) = absurd (omega (arith, h, k))
 same_next s es o l xs q qs n h (Next c p r t k) = next_bad s es o c l xs q qs n p r t k
 
-entry_same : (s : Setup) (line : List ℕ) (done : List Entry) (xs : List (List ℕ)) (q : List ℕ) (qs : List (List ℕ)) (o : Option Entry) → entry_of line ≡ o → told_on s (line ∷ (xs ++ (q ∷ qs))) done ≡ entry_or o (λ f. told_on s (xs ++ (q ∷ qs)) (done ++ f ∷ [])) (last_line s done (counts_of line) (xs ++ (q ∷ qs)))
-entry_same s line done xs q qs o p =
-    if_some (length done + 3) xs q qs (entry_or (entry_of line) (λ f. told_on s (xs ++ (q ∷ qs)) (done ++ f ∷ [])) (last_line s done (counts_of line) (xs ++ (q ∷ qs))))
-    ∙ ap (λ (o : Option Entry). entry_or o (λ f. told_on s (xs ++ (q ∷ qs)) (done ++ f ∷ [])) (last_line s done (counts_of line) (xs ++ (q ∷ qs)))) p
+entry_same : (version : Version) (s : Setup) (line : List ℕ) (done : List Entry) (xs : List (List ℕ)) (q : List ℕ) (qs : List (List ℕ)) (o : Option Entry) → entry_in version (given done) line ≡ o → told_on version s (line ∷ (xs ++ (q ∷ qs))) done ≡ entry_or o (λ f. told_on version s (xs ++ (q ∷ qs)) (done ++ f ∷ [])) (last_line s done (counts_of line) (xs ++ (q ∷ qs)))
+entry_same version s line done xs q qs o p =
+    if_some (length done + 3) xs q qs (entry_or (entry_in version (given done) line) (λ f. told_on version s (xs ++ (q ∷ qs)) (done ++ f ∷ [])) (last_line s done (counts_of line) (xs ++ (q ∷ qs))))
+    ∙ ap (λ (o : Option Entry). entry_or o (λ f. told_on version s (xs ++ (q ∷ qs)) (done ++ f ∷ [])) (last_line s done (counts_of line) (xs ++ (q ∷ qs)))) p
 
-same_on : (s : Setup) (k : ℕ) (ps : List (List ℕ)) (done : List Entry) (n : ℕ) (q : List ℕ) (qs : List (List ℕ)) → told_on s ps done ≡ Bad n → n ≡ length done + 3 + k → k + 1 < length ps → told_on s (take (suc k) ps ++ (q ∷ qs)) done ≡ Bad n
-same_on s k [] done n q qs e h l = absurd (omega arith)
-same_on s k (line ∷ []) done n q qs e h l = absurd (omega arith)
-same_on s zero (line ∷ (next ∷ lines)) done n q qs e h l =
-    entry_bad (entry_of line) (λ f. told_on s (next ∷ lines) (done ++ f ∷ [])) (last_line s done (counts_of line) (next ∷ lines)) n (told_on s (line ∷ (q ∷ qs)) done ≡ Bad n)
-    (λ f p r. absurd (omega (arith, length_push done f, bad_late s (next ∷ lines) (done ++ f ∷ []) n r, h)))
-    (λ p r. entry_same s line done [] q qs None p ∙ same_last s done (counts_of line) q qs n (omega (arith, h)) (last_bad s done (counts_of line) (next ∷ lines) n r)) e
-same_on s (suc k) (line ∷ (next ∷ lines)) done n q qs e h l =
-    entry_bad (entry_of line) (λ f. told_on s (next ∷ lines) (done ++ f ∷ [])) (last_line s done (counts_of line) (next ∷ lines)) n (told_on s (line ∷ (take (suc k) (next ∷ lines) ++ (q ∷ qs))) done ≡ Bad n)
-    (λ f p r. entry_same s line done (take (suc k) (next ∷ lines)) q qs (Some f) p ∙ same_on s k (next ∷ lines) (done ++ f ∷ []) n q qs r (omega (arith, h, length_push done f)) (omega (arith, l)))
-    (λ p r. entry_same s line done (take (suc k) (next ∷ lines)) q qs None p ∙ same_next s done (counts_of line) next (take k lines) q qs n (omega (arith, h)) (last_bad s done (counts_of line) (next ∷ lines) n r)) e
+same_on : (version : Version) (s : Setup) (k : ℕ) (ps : List (List ℕ)) (done : List Entry) (n : ℕ) (q : List ℕ) (qs : List (List ℕ)) → told_on version s ps done ≡ Bad n → n ≡ length done + 3 + k → k + 1 < length ps → told_on version s (take (suc k) ps ++ (q ∷ qs)) done ≡ Bad n
+same_on version s k [] done n q qs e h l = absurd (omega arith)
+same_on version s k (line ∷ []) done n q qs e h l = absurd (omega arith)
+same_on version s zero (line ∷ (next ∷ lines)) done n q qs e h l =
+    entry_bad (entry_in version (given done) line) (λ f. told_on version s (next ∷ lines) (done ++ f ∷ [])) (last_line s done (counts_of line) (next ∷ lines)) n (told_on version s (line ∷ (q ∷ qs)) done ≡ Bad n)
+    (λ f p r. absurd (omega (arith, length_push done f, bad_late version s (next ∷ lines) (done ++ f ∷ []) n r, h)))
+    (λ p r. entry_same version s line done [] q qs None p ∙ same_last s done (counts_of line) q qs n (omega (arith, h)) (last_bad s done (counts_of line) (next ∷ lines) n r)) e
+same_on version s (suc k) (line ∷ (next ∷ lines)) done n q qs e h l =
+    entry_bad (entry_in version (given done) line) (λ f. told_on version s (next ∷ lines) (done ++ f ∷ [])) (last_line s done (counts_of line) (next ∷ lines)) n (told_on version s (line ∷ (take (suc k) (next ∷ lines) ++ (q ∷ qs))) done ≡ Bad n)
+    (λ f p r. entry_same version s line done (take (suc k) (next ∷ lines)) q qs (Some f) p ∙ same_on version s k (next ∷ lines) (done ++ f ∷ []) n q qs r (omega (arith, h, length_push done f)) (omega (arith, l)))
+    (λ p r. entry_same version s line done (take (suc k) (next ∷ lines)) q qs None p ∙ same_next s done (counts_of line) next (take k lines) q qs n (omega (arith, h)) (last_bad s done (counts_of line) (next ∷ lines) n r)) e
 
-pub machine_late : (ps : List (List ℕ)) (n : ℕ) → machine_on ps ≡ Bad n → 2 ≤ n
-machine_late [] n e = let k : 2 ≡ n = bad_is e in omega (arith, k)
-machine_late (line ∷ lines) n e =
-    more_bad 2 lines (setup_or (setup_of line) lines) n (2 ≤ n) (λ z h. omega (arith, h))
-    (λ k. setup_bad (setup_of line) lines n (2 ≤ n) (λ s p q. let b : 3 ≤ n = bad_late s lines [] n q in omega (arith, b)) (λ p h. omega (arith, h)) k) e
+pub machine_late : (version : Version) (ps : List (List ℕ)) (n : ℕ) → machine_on version ps ≡ Bad n → 2 ≤ n
+machine_late version [] n e = let k : 2 ≡ n = bad_is e in omega (arith, k)
+machine_late version (line ∷ lines) n e =
+    more_bad 2 lines (setup_or version (setup_of line) lines) n (2 ≤ n) (λ z h. omega (arith, h))
+    (λ k. setup_bad version (setup_of line) lines n (2 ≤ n) (λ s p q. let b : 3 ≤ n = bad_late version s lines [] n q in omega (arith, b)) (λ p h. omega (arith, h)) k) e
 
-same_machine : (k : ℕ) (ps : List (List ℕ)) (n : ℕ) (q : List ℕ) (qs : List (List ℕ)) → machine_on ps ≡ Bad n → n ≡ k + 2 → k + 1 < length ps → machine_on (take (suc k) ps ++ (q ∷ qs)) ≡ Bad n
-same_machine k [] n q qs e h l = absurd (omega arith)
-same_machine k (line ∷ []) n q qs e h l = absurd (omega arith)
-same_machine zero (line ∷ (next ∷ lines)) n q qs e h l =
-    setup_bad (setup_of line) (next ∷ lines) n (machine_on (line ∷ (q ∷ qs)) ≡ Bad n)
-    (λ s p r. let b : 3 ≤ n = bad_late s (next ∷ lines) [] n r in absurd (omega (arith, b, h)))
-    (λ p r. ap (λ (o : Option Setup). setup_or o (q ∷ qs)) p ∙ ap (λ (m : ℕ). Bad m) r) e
-same_machine (suc k) (line ∷ (next ∷ lines)) n q qs e h l =
+same_machine : (version : Version) (k : ℕ) (ps : List (List ℕ)) (n : ℕ) (q : List ℕ) (qs : List (List ℕ)) → machine_on version ps ≡ Bad n → n ≡ k + 2 → k + 1 < length ps → machine_on version (take (suc k) ps ++ (q ∷ qs)) ≡ Bad n
+same_machine version k [] n q qs e h l = absurd (omega arith)
+same_machine version k (line ∷ []) n q qs e h l = absurd (omega arith)
+same_machine version zero (line ∷ (next ∷ lines)) n q qs e h l =
+    setup_bad version (setup_of line) (next ∷ lines) n (machine_on version (line ∷ (q ∷ qs)) ≡ Bad n)
+    (λ s p r. let b : 3 ≤ n = bad_late version s (next ∷ lines) [] n r in absurd (omega (arith, b, h)))
+    (λ p r. ap (λ (o : Option Setup). setup_or version o (q ∷ qs)) p ∙ ap (λ (m : ℕ). Bad m) r) e
+same_machine version (suc k) (line ∷ (next ∷ lines)) n q qs e h l =
     let xs : List (List ℕ) = take (suc k) (next ∷ lines) in
-    setup_bad (setup_of line) (next ∷ lines) n (machine_on (line ∷ (xs ++ (q ∷ qs))) ≡ Bad n)
-    (λ s p r. if_some 2 xs q qs (setup_or (setup_of line) (xs ++ (q ∷ qs))) ∙ ap (λ (o : Option Setup). setup_or o (xs ++ (q ∷ qs))) p ∙ same_on s k (next ∷ lines) [] n q qs r (omega (arith, h)) (omega (arith, l)))
+    setup_bad version (setup_of line) (next ∷ lines) n (machine_on version (line ∷ (xs ++ (q ∷ qs))) ≡ Bad n)
+    (λ s p r. if_some 2 xs q qs (setup_or version (setup_of line) (xs ++ (q ∷ qs))) ∙ ap (λ (o : Option Setup). setup_or version o (xs ++ (q ∷ qs))) p ∙ same_on version s k (next ∷ lines) [] n q qs r (omega (arith, h)) (omega (arith, l)))
     (λ p r. absurd (omega (arith, h, r))) e
 
-same_lines : (k : ℕ) (ps : List (List ℕ)) (n : ℕ) (q : List ℕ) (qs : List (List ℕ)) → lines_on ps ≡ Bad n → n ≡ k + 1 → k + 1 < length ps → lines_on (take (suc k) ps ++ (q ∷ qs)) ≡ Bad n
-same_lines k [] n q qs e h l = absurd (omega arith)
-same_lines k (line ∷ []) n q qs e h l = absurd (omega arith)
-same_lines zero (line ∷ (next ∷ lines)) n q qs e h l =
-    header_bad (is_header line) (machine_on (next ∷ lines)) n (lines_on (line ∷ (q ∷ qs)) ≡ Bad n)
-    (λ t r. absurd (omega (arith, machine_late (next ∷ lines) n r, h)))
-    (λ t r. ap (λ (b : Bool). cond b (machine_on (q ∷ qs)) (Bad 1)) t ∙ ap (λ (m : ℕ). Bad m) r) e
-same_lines (suc k) (line ∷ (next ∷ lines)) n q qs e h l =
+same_lines : (version : Version) (k : ℕ) (ps : List (List ℕ)) (n : ℕ) (q : List ℕ) (qs : List (List ℕ)) → lines_on version ps ≡ Bad n → n ≡ k + 1 → k + 1 < length ps → lines_on version (take (suc k) ps ++ (q ∷ qs)) ≡ Bad n
+same_lines version k [] n q qs e h l = absurd (omega arith)
+same_lines version k (line ∷ []) n q qs e h l = absurd (omega arith)
+same_lines version zero (line ∷ (next ∷ lines)) n q qs e h l =
+    header_bad (is_header version line) (machine_on version (next ∷ lines)) n (lines_on version (line ∷ (q ∷ qs)) ≡ Bad n)
+    (λ t r. absurd (omega (arith, machine_late version (next ∷ lines) n r, h)))
+    (λ t r. ap (λ (b : Bool). cond b (machine_on version (q ∷ qs)) (Bad 1)) t ∙ ap (λ (m : ℕ). Bad m) r) e
+same_lines version (suc k) (line ∷ (next ∷ lines)) n q qs e h l =
     let xs : List (List ℕ) = take (suc k) (next ∷ lines) in
-    header_bad (is_header line) (machine_on (next ∷ lines)) n (lines_on (line ∷ (xs ++ (q ∷ qs))) ≡ Bad n)
-    (λ t r. if_some 1 xs q qs (cond (is_header line) (machine_on (xs ++ (q ∷ qs))) (Bad 1)) ∙ ap (λ (b : Bool). cond b (machine_on (xs ++ (q ∷ qs))) (Bad 1)) t ∙ same_machine k (next ∷ lines) n q qs r (omega (arith, h)) (omega (arith, l)))
+    header_bad (is_header version line) (machine_on version (next ∷ lines)) n (lines_on version (line ∷ (xs ++ (q ∷ qs))) ≡ Bad n)
+    (λ t r. if_some 1 xs q qs (cond (is_header version line) (machine_on version (xs ++ (q ∷ qs))) (Bad 1)) ∙ ap (λ (b : Bool). cond b (machine_on version (xs ++ (q ∷ qs))) (Bad 1)) t ∙ same_machine version k (next ∷ lines) n q qs r (omega (arith, h)) (omega (arith, l)))
     (λ t r. absurd (omega (arith, h, r))) e
 
 -- pieces and lines
@@ -229,9 +231,9 @@ pub pieces_some : (xs : List ℕ) → (q : List ℕ) × ((qs : List (List ℕ)) 
 pieces_some [] = ([], ([], refl))
 pieces_some (x ∷ xs) = some_step (eqb x 10) x (split_at 10 xs)
 
-pub same_bytes : (bytes rest : List ℕ) (k n : ℕ) → lines_on (split_at 10 bytes) ≡ Bad n → n ≡ k + 1 → k + 1 < length (split_at 10 bytes) → lines_on (split_at 10 (lines_text (take (suc k) (split_at 10 bytes)) ++ rest)) ≡ Bad n
-same_bytes bytes rest k n e h l =
+pub same_bytes : (version : Version) (bytes rest : List ℕ) (k n : ℕ) → lines_on version (split_at 10 bytes) ≡ Bad n → n ≡ k + 1 → k + 1 < length (split_at 10 bytes) → lines_on version (split_at 10 (lines_text (take (suc k) (split_at 10 bytes)) ++ rest)) ≡ Bad n
+same_bytes version bytes rest k n e h l =
     let ps : List (List ℕ) = split_at 10 bytes in
     let some = pieces_some rest in
-    ap lines_on (split_lines (take (suc k) ps) rest (take_lack (suc k) ps (pieces_lack bytes)) ∙ ap (λ (qs : List (List ℕ)). take (suc k) ps ++ qs) some.1.1)
-    ∙ same_lines k ps n some.0 some.1.0 e h l
+    ap (lines_on version) (split_lines (take (suc k) ps) rest (take_lack (suc k) ps (pieces_lack bytes)) ∙ ap (λ (qs : List (List ℕ)). take (suc k) ps ++ qs) some.1.1)
+    ∙ same_lines version k ps n some.0 some.1.0 e h l

@@ -33,7 +33,7 @@ aim_lacks : (op : Op) (page word : ℕ) (kind : Kind) → IsAimRanged (record { 
 aim_lacks Read page word kind r = weave_lacks 10 read_pieces (kind, (record { page = page; word = word }, tt)) (omega arith) (tt, ((r.0, r.1), tt)) refl
 aim_lacks (Write value) page word kind r = weave_lacks 10 write_pieces (kind, (record { page = page; word = word }, (value, tt))) (omega arith) (tt, ((r.0, r.1), (r.2, tt))) refl
 
-access_lacks : (a : Aim) → IsAimRanged a → lacks 10 (access_text a) ≡ true
+pub access_lacks : (a : Aim) → IsAimRanged a → lacks 10 (access_text a) ≡ true
 access_lacks a r = aim_lacks a.op a.page a.word a.kind r
 
 backing_lacks : (b : Backing) → IsBackingRanged b → lacks 10 (backing_text b) ≡ true

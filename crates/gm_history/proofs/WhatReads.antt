@@ -44,7 +44,7 @@ or_sound (Some v) b w P f g e = f e
 or_sound None b w P f g e = g e
 
 -- accesses and backings
-abbrev AccessRead : List ℕ → Got Aim → Type 0
+abbrev pub AccessRead : List ℕ → Got Aim → Type 0
 AccessRead bytes g = (bytes ≡ access_text g.value ++ g.rest) × IsAimRanged g.value
 
 read_sound : (bytes : List ℕ) (g : Got Aim) → read_at bytes ≡ Some g → AccessRead bytes g
@@ -63,7 +63,7 @@ or_got_sound : {A : Type 0} (a b : Option (Got A)) (g : Got A) (P : Type 0) → 
 or_got_sound (Some v) b g P p q e = p e
 or_got_sound None b g P p q e = q e
 
-access_sound : (bytes : List ℕ) (g : Got Aim) → access_at bytes ≡ Some g → AccessRead bytes g
+pub access_sound : (bytes : List ℕ) (g : Got Aim) → access_at bytes ≡ Some g → AccessRead bytes g
 unfolding access_at
 access_sound bytes g e = or_got_sound (read_at bytes) (write_at bytes) g (AccessRead bytes g) (read_sound bytes g) (write_sound bytes g) e
 

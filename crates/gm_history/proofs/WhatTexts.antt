@@ -49,7 +49,7 @@ unfolding access_at read_at write_at after strip
 access_by Read page word kind x r d = ap (λ (o : Option (Got Aim)). or_got o (write_at (access_text (record { page = page; word = word; op = Read; kind = kind }) ++ x))) (parse_gives read_pieces (kind, (record { page = page; word = word }, tt)) x (λ h rest. Some (got (aim h.1.0 Read h.0) rest)) (tt, ((r.0, r.1), tt)) refl d)
 access_by (Write value) page word kind x r d = parse_gives write_pieces (kind, (record { page = page; word = word }, (value, tt))) x (λ h rest. Some (got (aim h.1.0 (Write h.1.1.0) h.0) rest)) (tt, ((r.0, r.1), (r.2, tt))) refl d
 
-access_gives : (a : Aim) (x : List ℕ) → IsAimRanged a → NoDigit x → access_at (access_text a ++ x) ≡ Some (got a x)
+pub access_gives : (a : Aim) (x : List ℕ) → IsAimRanged a → NoDigit x → access_at (access_text a ++ x) ≡ Some (got a x)
 access_gives a x r d = access_by a.op a.page a.word a.kind x r d
 
 backing_gives : (b : Backing) (x : List ℕ) → IsBackingRanged b → NoDigit x → backing_at (backing_text b ++ x) ≡ Some (got b x)

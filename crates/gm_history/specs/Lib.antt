@@ -1,10 +1,14 @@
 pub mod Cuts
 pub mod Numerals
 pub mod Ranges
+pub mod Given
+pub mod Frames
 pub mod Fields
 pub mod Patterns
 pub mod Whats
+pub mod OldWhats
 pub mod Lines
-pub mod Reading
 pub mod TextForm
+pub mod Reading
 pub mod Refusals
+pub mod Migrating

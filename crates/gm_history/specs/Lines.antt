@@ -8,7 +8,9 @@ use Rattle.gm_flat.specs.declared.entry.Entry.{Entry}
 use Rattle.gm_flat.specs.declared.entry.What.{What}
 use Rattle.gm_history.specs.Fields.{U64, U32, Huge, OfActor, Nothing}
 use Rattle.gm_history.specs.Patterns.{Piece, Say, Holes, parse, whole}
-use Rattle.gm_history.specs.Whats.{what_of}
+use Rattle.gm_history.specs.OldWhats.{what_in}
+use Rattle.gm_history.specs.declared.given.Run.{Run}
+use Rattle.gm_history.specs.declared.version.Version.{Version}
 
 abbrev pub head_pieces : List Piece
 head_pieces = Say [] U64 ∷ Say (codes " ") OfActor ∷ Say (codes " ") Nothing ∷ []
@@ -17,9 +19,9 @@ abbrev pub entry_by : ℕ → Actor → Option What → Option Entry
 entry_by turn actor None = None
 entry_by turn actor (Some what) = Some (record { turn = turn; actor = actor; what = what })
 
--- the entry of a line
-unfoldable pub entry_of : List ℕ → Option Entry
-entry_of line = parse head_pieces line (λ h rest. entry_by h.0 h.1.0 (what_of rest))
+-- the entry of a line in a version, after lines that gave these runs
+unfoldable pub entry_in : Version → List Run → List ℕ → Option Entry
+entry_in version runs line = parse head_pieces line (λ h rest. entry_by h.0 h.1.0 (what_in version runs rest))
 
 abbrev pub machine_pieces : List Piece
 machine_pieces = Say (codes "machine frames=") U32 ∷ Say (codes " user=") U32 ∷ Say (codes " vcpus=") U32 ∷ Say (codes " callers=") U32 ∷ Say (codes " huge=") Huge ∷ []

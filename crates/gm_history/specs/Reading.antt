@@ -4,7 +4,10 @@ use Rattle.std.specs.declared.option.Option.{Option}
 use Rattle.gm_base.specs.declared.values.Setup.{Setup}
 use Rattle.gm_flat.specs.declared.entry.Entry.{Entry}
 use Rattle.gm_history.specs.Cuts.{strip, split_at}
-use Rattle.gm_history.specs.Lines.{Counts, entry_of, setup_of, counts_of}
+use Rattle.gm_history.specs.declared.version.Version.{Version}
+use Rattle.gm_history.specs.declared.version.Version.TheVariants.{One, Two}
+use Rattle.gm_history.specs.Given.{given}
+use Rattle.gm_history.specs.Lines.{Counts, entry_in, setup_of, counts_of}
 use Rattle.gm_history.specs.TextForm.{Told, last_turn}
 
 -- a history, or the bad line's number
@@ -35,31 +38,35 @@ if_more number [] verdict = Bad number
 if_more number (line ∷ lines) verdict = verdict
 
 -- the lines after those of these entries
-abbrev pub told_on : Setup → List (List ℕ) → List Entry → Verdict
-told_on s [] es = Bad (length es + 3)
-told_on s (line ∷ lines) es = if_more (length es + 3) lines (entry_or (entry_of line) (λ e. told_on s lines (es ++ e ∷ [])) (last_line s es (counts_of line) lines))
+abbrev pub told_on : Version → Setup → List (List ℕ) → List Entry → Verdict
+told_on version s [] es = Bad (length es + 3)
+told_on version s (line ∷ lines) es = if_more (length es + 3) lines (entry_or (entry_in version (given es) line) (λ e. told_on version s lines (es ++ e ∷ [])) (last_line s es (counts_of line) lines))
 
-abbrev pub setup_or : Option Setup → List (List ℕ) → Verdict
-setup_or None lines = Bad 2
-setup_or (Some s) lines = told_on s lines []
+abbrev pub setup_or : Version → Option Setup → List (List ℕ) → Verdict
+setup_or version None lines = Bad 2
+setup_or version (Some s) lines = told_on version s lines []
 
 -- the lines after the first
-abbrev pub machine_on : List (List ℕ) → Verdict
-machine_on [] = Bad 2
-machine_on (line ∷ lines) = if_more 2 lines (setup_or (setup_of line) lines)
+abbrev pub machine_on : Version → List (List ℕ) → Verdict
+machine_on version [] = Bad 2
+machine_on version (line ∷ lines) = if_more 2 lines (setup_or version (setup_of line) lines)
 
 abbrev pub is_nothing : Option (List ℕ) → Bool
 is_nothing None = false
 is_nothing (Some []) = true
 is_nothing (Some (b ∷ rest)) = false
 
--- whether a line is the first one of a history
-unfoldable pub is_header : List ℕ → Bool
-is_header line = is_nothing (strip (codes "gmem-history 2") line)
+-- the first line
+abbrev pub header : Version → List ℕ
+header One = codes "gmem-history 1"
+header Two = codes "gmem-history 2"
 
-abbrev pub lines_on : List (List ℕ) → Verdict
-lines_on [] = Bad 1
-lines_on (line ∷ lines) = if_more 1 lines (if is_header line then machine_on lines else Bad 1)
+unfoldable pub is_header : Version → List ℕ → Bool
+is_header version line = is_nothing (strip (header version) line)
 
-unfoldable pub verdict_of : List ℕ → Verdict
-verdict_of bytes = lines_on (split_at 10 bytes)
+abbrev pub lines_on : Version → List (List ℕ) → Verdict
+lines_on version [] = Bad 1
+lines_on version (line ∷ lines) = if_more 1 lines (if is_header version line then machine_on version lines else Bad 1)
+
+unfoldable pub verdict_of : Version → List ℕ → Verdict
+verdict_of version bytes = lines_on version (split_at 10 bytes)

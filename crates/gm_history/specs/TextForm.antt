@@ -1,12 +1,17 @@
--- *form 2*: which bytes are the text of a history, version 2, and which line of other bytes is the bad one.
--- (This project's own.)
+-- *form 1* and *form 2*: which bytes are the text of a history, in a version, and which line of other bytes is the bad one.
+-- *up*: what bytes of form 1 are brought up to. (This project's own.)
 use Rattle.std.specs.Prelude.{◌≡◌, ℕ, ◌<◌, ◌≤◌, Bool, true, false, nat_lt, List, [], ◌∷◌, ◌++◌, length, take}
 use Rattle.gm_base.specs.declared.values.Setup.{Setup}
 use Rattle.gm_flat.specs.declared.entry.Entry.{Entry}
 use Rattle.gm_flat.specs.InTypes.{roomless_entries}
 use Rattle.gm_flat.specs.Plain.{IsPlain}
 use Rattle.gm_text.specs.Text.{history_text}
+use Rattle.gm_text.specs.TextOne.{history_text_one}
+use Rattle.gm_history.specs.declared.given.Run.{Run}
+use Rattle.gm_history.specs.declared.version.Version.{Version}
+use Rattle.gm_history.specs.declared.version.Version.TheVariants.{One, Two}
 use Rattle.gm_history.specs.Cuts.{split_at}
+use Rattle.gm_history.specs.Given.{AreOld}
 use Rattle.gm_history.specs.Ranges.{AreRanged, IsU64, IsWithin}
 
 -- a setup, the entries of a history, oldest first, and the count of its turns
@@ -33,21 +38,47 @@ pub record IsTellable (h : Told) : Type 0 where
   pub count : IsU64 (length h.entries)
   pub late : last_turn h.entries ≤ h.turns
 
-abbrev pub text_of_told : Told → List ℕ
-text_of_told h = history_text h.setup h.entries h.turns
+-- a version can say these entries after lines that gave these runs; version 2 any
+abbrev pub AreSaid : Version → List Run → List Entry → Type 0
+AreSaid One runs es = AreOld runs es
+AreSaid Two runs es = Unit {0}
 
--- the bytes are the text of this history
-pub record Tells (bytes : List ℕ) (h : Told) : Type 0 where
+abbrev pub text_in : Version → Told → List ℕ
+text_in One h = history_text_one h.setup h.entries h.turns
+text_in Two h = history_text h.setup h.entries h.turns
+
+-- the bytes are the text of this history in a version, which can say it
+pub record TellsIn (version : Version) (bytes : List ℕ) (h : Told) : Type 0 where
   pub tellable : IsTellable h
-  pub text : bytes ≡ text_of_told h
+  pub said : AreSaid version [] h.entries
+  pub text : bytes ≡ text_in version h
+
+abbrev pub Tells : List ℕ → Told → Type 0
+Tells = TellsIn Two
+
+abbrev pub text_of_told : Told → List ℕ
+text_of_told = text_in Two
 
 -- a history without the spare room of its spans
 abbrev pub roomless_told : Told → Told
 roomless_told h = record { setup = h.setup; entries = roomless_entries h.entries; turns = h.turns }
 
--- the bytes are of form 2
+-- the bytes are of form 1, or of form 2
+abbrev pub IsForm : Version → List ℕ → Type 0
+IsForm version bytes = (h : Told) × TellsIn version bytes h
+
+abbrev pub IsFormOne : List ℕ → Type 0
+IsFormOne = IsForm One
+
 abbrev pub IsFormTwo : List ℕ → Type 0
-IsFormTwo bytes = (h : Told) × Tells bytes h
+IsFormTwo = IsForm Two
+
+-- the bytes are of form 1, and the text is that of their history in version 2: it has the first line of version 2, and the
+-- frame in each touch of a folio
+pub record IsBroughtUp (bytes text : List ℕ) : Type 0 where
+  pub history : Told
+  pub tells : TellsIn One bytes history
+  pub text_is : text ≡ text_in Two history
 
 -- lines one after another, each with its byte 10
 abbrev pub lines_text : List (List ℕ) → List ℕ

@@ -4,16 +4,15 @@ ghost use Rattle.std.specs.Prelude.{◌≡◌, None, Some, IfOk, IfSome, MatchOp
 ghost use Rattle.gm_history.specs.Cuts.{split_at};
 ghost use Rattle.gm_history.specs.Patterns.{ended};
 ghost use Rattle.gm_history.specs.Whats.{bare_of, bare_line_of, begin_of, word_span_of, spans_of, what_of};
-ghost use Rattle.gm_history.specs.Lines.{entry_of};
 
 use crate::calls::read_call;
 use crate::cuts::{first_piece, strip};
 use crate::effects::read_effect;
 use crate::faults::read_fault_line;
-use crate::fields::{actor_after, number_after, span, span_of, word};
+use crate::fields::{span, span_of, word};
 use crate::replies::read_reply_line;
 use gm_base::{NoMemory, Span};
-use gm_flat::{Entry, Exit, Spans, What};
+use gm_flat::{Exit, Spans, What};
 use std::alloc::Global;
 
 /// What a line says, if nothing stands after it.
@@ -117,7 +116,7 @@ fn read_begin(alloc: Global, line: &[u8]) -> Result<Option<What>, NoMemory>
 
 /// What the end of an entry's line says.
 #[tactic(auto, unfolding(crate::specs::Whats::what_of))]
-fn read_what(alloc: Global, line: &[u8]) -> Result<Option<What>, NoMemory>
+pub fn read_what(alloc: Global, line: &[u8]) -> Result<Option<What>, NoMemory>
     ensures { IfOk result (λ what. what ≡ what_of line.now) }
 {
     if let Some(what) = read_fault_line(line) {
@@ -136,31 +135,4 @@ fn read_what(alloc: Global, line: &[u8]) -> Result<Option<What>, NoMemory>
         return Ok(Some(what));
     }
     read_begin(alloc, line)
-}
-
-/// The entry of a line. None where the line is that of no entry.
-#[tactic(auto, unfolding(crate::specs::Lines::entry_of))]
-pub fn read_entry(alloc: Global, line: &[u8]) -> Result<Option<Entry>, NoMemory>
-    ensures { IfOk result (λ entry. entry ≡ entry_of line.now) }
-{
-    let turn = match number_after(b"", line) {
-        Some(turn) => turn,
-        None => return Ok(None),
-    };
-    let actor = match actor_after(b" ", turn.rest) {
-        Some(actor) => actor,
-        None => return Ok(None),
-    };
-    let space = match word(b" ", actor.rest) {
-        Some(space) => space,
-        None => return Ok(None),
-    };
-    match read_what(alloc, space.rest)? {
-        Some(what) => Ok(Some(Entry {
-            turn: turn.value,
-            actor: actor.value,
-            what,
-        })),
-        None => Ok(None),
-    }
 }

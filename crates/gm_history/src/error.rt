@@ -1,4 +1,4 @@
-//! Why bytes are no history.
+//! Why bytes are no history, and why they weren't brought up.
 
 ghost use Rattle.std.specs.Prelude.{◌≡◌};
 
@@ -23,4 +23,16 @@ impl From<NoMemory> for HistoryError {
     fn from(_error: NoMemory) -> HistoryError {
         HistoryError::NoMemory
     }
+}
+
+/// Bytes weren't brought up: they aren't the text of a history in version 1, and this is their bad line, numbered from
+/// 1; the sink failed; or memory ran out.
+#[derive(Clone, Copy, Debug, PartialEq, Eq, Error)]
+pub enum MigrateError {
+    #[error("line {line} is bad")]
+    BadText { line: u64 },
+    #[error("the sink failed")]
+    Failed,
+    #[error("out of memory")]
+    NoMemory,
 }

@@ -17,13 +17,13 @@ use gm_flat::{Backing, Exit, What};
 
 /// What an access aims at, by its numbers.
 #[derive(Clone, Copy, Debug, PartialEq, Eq)]
-struct Aimed {
-    place: Place,
-    op: Op,
-    kind: Kind,
+pub struct Aimed {
+    pub place: Place,
+    pub op: Op,
+    pub kind: Kind,
 }
 
-fn access_of(aimed: Aimed) -> Access
+pub fn access_of(aimed: Aimed) -> Access
     requires { (aimed.place.page < PAGE_LIMIT) × (aimed.place.word < PAGE_WORDS) }
     ensures { result ≡ aim_of aimed }
 {
@@ -71,7 +71,7 @@ fn write_access(bytes: &[u8]) -> Option<Field<'_, Aimed>>
 }
 
 #[tactic(auto, unfolding(crate::specs::Whats::access_at))]
-fn access(bytes: &[u8]) -> Option<Field<'_, Aimed>>
+pub fn access(bytes: &[u8]) -> Option<Field<'_, Aimed>>
     ensures value { MatchOption result (access_at bytes.now ≡ None) (λ f. access_at bytes.now ≡ Some (got (aim_of f.value) f.rest.now)) }
     ensures bound { IfSome result (λ f. (f.value.place.page < PAGE_LIMIT) × (f.value.place.word < PAGE_WORDS)) }
 {
@@ -131,7 +131,7 @@ fn read_miss(line: &[u8]) -> Option<What>
     )
 }
 
-fn touch_on(access: Access, backing: Backing, rest: &[u8]) -> Option<What>
+pub fn touch_on(access: Access, backing: Backing, rest: &[u8]) -> Option<What>
     ensures { result ≡ touch_on access backing rest.now }
 {
     let level = level_after(b" level=", rest)?;

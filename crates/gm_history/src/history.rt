@@ -2,16 +2,19 @@
 
 ghost use Rattle.std.specs.Prelude.{◌≡◌, ◌+◌, ◌<◌, ◌^◌, ◌++◌, [], ◌∷◌, length, None, Some, true, IfOk, IfErr, IfSome, MatchOption};
 ghost use Rattle.gm_history.specs.Cuts.{split_at};
+ghost use Rattle.gm_history.specs.declared.version.Version.{Version};
 ghost use Rattle.gm_history.specs.Lines.{machine_of, setup_of, counts_of, is_within};
 ghost use Rattle.gm_history.specs.Patterns.{ended};
-ghost use Rattle.gm_history.specs.Reading.{Good, Bad, is_header, told_at, told_on, last_line, lines_on, machine_on};
-ghost use Rattle.gm_history.specs.Refusals.{RefusedAs, JudgedBad};
-ghost use Rattle.gm_history.specs.TextForm.{Tells, last_turn};
+ghost use Rattle.gm_history.specs.Reading.{Good, Bad, header, is_header, told_at, told_on, last_line, lines_on, machine_on};
+ghost use Rattle.gm_history.specs.Refusals.{RefusedAs, RefusedIn, JudgedBad};
+ghost use Rattle.gm_history.specs.TextForm.{Tells, TellsIn, last_turn};
 
 use crate::cuts::{first_piece, strip};
-use crate::entries::read_entry;
 use crate::error::HistoryError;
 use crate::fields::{number_after, small_after, switch_after};
+use crate::frames::Frames;
+use crate::lines::read_entry;
+use crate::version::Version;
 use gm_base::{MOST_CALLERS, MOST_FRAMES, MOST_USER_PAGES, MOST_VCPUS, Setup};
 use gm_flat::Entry;
 use std::alloc::Global;
@@ -126,12 +129,18 @@ fn read_counts(line: &[u8]) -> Option<Counts>
 }
 
 /// Reads the lines after the `machine` line.
-#[tactic(auto, using(crate::proofs::Splits::more_after, crate::proofs::LastTurns::last_push))]
-fn read_entries(alloc: Global, setup: Setup, bytes: &[u8]) -> Result<History, HistoryError>
+#[tactic(auto, using(crate::proofs::Splits::more_after, crate::proofs::LastTurns::last_push, crate::proofs::Runs::given_push))]
+fn read_entries(
+    alloc: Global,
+    version: Version,
+    setup: Setup,
+    bytes: &[u8],
+) -> Result<History, HistoryError>
     requires { length bytes.now < 2 ^ 63 }
-    ensures ok { IfOk result (λ h. told_on setup (split_at 10 bytes.now) [] ≡ Good h) }
-    ensures bad { IfErr result (JudgedBad (told_on setup (split_at 10 bytes.now) [])) }
+    ensures ok { IfOk result (λ h. told_on version setup (split_at 10 bytes.now) [] ≡ Good h) }
+    ensures bad { IfErr result (JudgedBad (told_on version setup (split_at 10 bytes.now) [])) }
 {
+    let mut frames = Frames::new(alloc);
     let mut entries = Vec::new(alloc);
     let mut last = 0;
     let mut rest = bytes;
@@ -142,7 +151,7 @@ fn read_entries(alloc: Global, setup: Setup, bytes: &[u8]) -> Result<History, Hi
             Some(after) => after,
             None => return Err(HistoryError::BadText { line: number }),
         };
-        match read_entry(alloc, next.piece)? {
+        match read_entry(alloc, version, &mut frames, next.piece)? {
             Some(entry) => {
                 last = entry.turn;
                 match entries.push(entry) {
@@ -212,12 +221,21 @@ struct Started<'a> {
     rest: &'a [u8],
 }
 
+fn header(version: Version) -> &'static [u8]
+    ensures { result.now ≡ header version }
+{
+    match version {
+        Version::One => b"gmem-history 1",
+        Version::Two => b"gmem-history 2",
+    }
+}
+
 /// Whether a line is the first one of a history.
 #[tactic(auto, unfolding(crate::specs::Reading::is_header))]
-fn is_header(line: &[u8]) -> bool
-    ensures { result ≡ is_header line.now }
+fn is_header(version: Version, line: &[u8]) -> bool
+    ensures { result ≡ is_header version line.now }
 {
-    match strip(b"gmem-history 2", line) {
+    match strip(header(version), line) {
         Some(rest) => rest.is_empty(),
         None => false,
     }
@@ -225,23 +243,23 @@ fn is_header(line: &[u8]) -> bool
 
 /// What stands after the first line, if it is that of a history.
 #[tactic(auto, using(crate::proofs::Splits::more_after))]
-fn after_first(bytes: &[u8]) -> Option<&[u8]>
-    ensures lines { MatchOption result (lines_on (split_at 10 bytes.now) ≡ Bad 1) (λ rest. lines_on (split_at 10 bytes.now) ≡ machine_on (split_at 10 rest.now)) }
+fn after_first(version: Version, bytes: &[u8]) -> Option<&[u8]>
+    ensures lines { MatchOption result (lines_on version (split_at 10 bytes.now) ≡ Bad 1) (λ rest. lines_on version (split_at 10 bytes.now) ≡ machine_on version (split_at 10 rest.now)) }
     ensures less { IfSome result (λ rest. length rest.now < length bytes.now) }
 {
     let first = first_piece(bytes, 10);
     let after = first.rest?;
-    if is_header(first.piece) {
+    if is_header(version, first.piece) {
         Some(after)
     } else {
         None
     }
 }
 
-/// What stands after the `machine` line, with its setup.
+/// What stands after the `machine` line, with its setup. It is the same in both versions.
 #[tactic(auto, using(crate::proofs::Splits::more_after))]
 fn after_machine(bytes: &[u8]) -> Option<Started<'_>>
-    ensures lines { MatchOption result (machine_on (split_at 10 bytes.now) ≡ Bad 2) (λ s. machine_on (split_at 10 bytes.now) ≡ told_on s.setup (split_at 10 s.rest.now) []) }
+    ensures lines { (version : Version) → MatchOption result (machine_on version (split_at 10 bytes.now) ≡ Bad 2) (λ s. machine_on version (split_at 10 bytes.now) ≡ told_on version s.setup (split_at 10 s.rest.now) []) }
     ensures less { IfSome result (λ s. length s.rest.now < length bytes.now) }
 {
     let next = first_piece(bytes, 10);
@@ -250,13 +268,18 @@ fn after_machine(bytes: &[u8]) -> Option<Started<'_>>
     Some(Started { setup, rest })
 }
 
-/// Reads a history's text, version 2. `BadText` comes exactly where the bytes aren't the text of a history, with the
-/// bad line: the least such that the lines up to it begin no such text. `NoMemory` is the other error.
-pub fn read_history(alloc: Global, bytes: &[u8]) -> Result<History, HistoryError>
-    ensures ok { IfOk result (Tells bytes.now) }
-    ensures bad { IfErr result (RefusedAs bytes.now) }
+/// Reads a history's text in a version. `BadText` comes exactly where the bytes aren't the text of a history that the
+/// version can say, with the bad line: the least such that the lines up to it begin no such text. `NoMemory` is the
+/// other error.
+pub(crate) fn read_text(
+    alloc: Global,
+    version: Version,
+    bytes: &[u8],
+) -> Result<History, HistoryError>
+    ensures ok { IfOk result (TellsIn version bytes.now) }
+    ensures bad { IfErr result (RefusedIn version bytes.now) }
 {
-    let machine = match after_first(bytes) {
+    let machine = match after_first(version, bytes) {
         Some(machine) => machine,
         None => return Err(HistoryError::BadText { line: 1 }),
     };
@@ -264,5 +287,14 @@ pub fn read_history(alloc: Global, bytes: &[u8]) -> Result<History, HistoryError
         Some(started) => started,
         None => return Err(HistoryError::BadText { line: 2 }),
     };
-    read_entries(alloc, started.setup, started.rest)
+    read_entries(alloc, version, started.setup, started.rest)
+}
+
+/// Reads a history's text, version 2. `BadText` comes exactly where the bytes aren't the text of a history, with the
+/// bad line: the least such that the lines up to it begin no such text. `NoMemory` is the other error.
+pub fn read_history(alloc: Global, bytes: &[u8]) -> Result<History, HistoryError>
+    ensures ok { IfOk result (Tells bytes.now) }
+    ensures bad { IfErr result (RefusedAs bytes.now) }
+{
+    read_text(alloc, Version::Two, bytes)
 }

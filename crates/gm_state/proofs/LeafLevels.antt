@@ -1,9 +1,9 @@
 -- How large a leaf may be.
 use Rattle.std.proofs.Common.{◌≡◌, ℕ, ◌+◌, ◌-◌, ◌*◌, ◌/◌, ◌%◌, ◌<◌, ◌≤◌, ◌&&◌, leb, ltb, not, List, [], ◌∷◌, Bool, true, false, Option, Some, None, arith, refl, sym, subst, cond, ◌∙◌, ap, inl, inr, lit<}
-use Rattle.std.specs.Prelude.{MatchBool, IsTrue, ◌↔◌}
+use Rattle.std.specs.Prelude.{MatchBool, IfNone, IfSome, IsTrue, is_some, ◌⊎◌, ◌↔◌}
 use Rattle.std.proofs.lemmas.Bool.{both_ways}
 use Rattle.std.proofs.lemmas.Bool.Decides.{nat_tests}
-use Rattle.gm_attr.specs.Kinds.{AllHave, SomeOther, Tells, kind_at}
+use Rattle.gm_attr.specs.Kinds.{AllHave, AttrsView, SomeOther, Tells, kind_at}
 use Rattle.gm_base.specs.Extent.{Extent, holds, meets}
 use Rattle.gm_base.specs.declared.numbers.TheConstants.{BLOCK_PAGES, PAGE_LIMIT}
 use Rattle.gm_base.specs.declared.values.Folio.{Folio}
@@ -73,7 +73,7 @@ named_is slot kind first k f u lt =
     ∙ (ap (λ (b : Bool). named_by (first + k) f.cache (attr_of (first + k) f.attrs) (cond b None (Some slot))) u.unmarked
     ∙ ap (λ (a : Kind). named_by (first + k) f.cache a (Some slot)) (u.kinds k lt))
 
-abbrev from_page : ℕ → Extent
+abbrev pub from_page : ℕ → Extent
 from_page first = record { lo = first; hi = first + BLOCK_PAGES }
 
 pub shared_block : (slot : SlotView) (first : ℕ) (f : Flat) → LiesUnder slot Shared first f → first % BLOCK_PAGES ≡ 0 → slot.base ≤ first → slot.user % BLOCK_PAGES ≡ slot.base % BLOCK_PAGES → IsConsecutive (from_page first) f
@@ -184,7 +184,7 @@ all_of false K e kind h m = absurd (cc)
 
 is_all : (b : Bool) (K : ℕ → Kind) (e : Extent) (kind : Kind) → ((h : ℕ) → holds e h ≡ true → K h ≡ kind) → MatchBool b (AllHave K e kind) (SomeOther K e kind) → b ≡ true
 is_all true K e kind a m = refl
-is_all false K e kind a m = absurd (m.2.1 (a m.0 m.2.0))
+is_all false K e kind a m = absurd (m.2 (a m.0 m.1))
 
 -- what the level is judged by: the state stands, no two slots meet, the slot over the page isn't marked, the page's kind, and
 -- whether all of its block have it
@@ -244,3 +244,25 @@ block_or_page s st m slot page kind same range a stand p c = record {
 -- the slot's pages have indexes below 2^52
 pub indexes_below : (s : Setup) (st : StateView) (m : Memory) (slot : SlotView) (page : ℕ) → StateIs s st m → slot_over st.slots.slots page ≡ Some slot → slot.index + slot.pages ≤ PAGE_LIMIT
 indexes_below s st m slot page i o = (of_over (IsBounded s.user) page slot m.stored.flat.slots i.bounded (over_flat s st m slot page i o)).indexes
+
+-- what is told of the frames tells whether the block is whole
+pub private_exact : (slot : SlotView) (file first : ℕ) (f : Flat) (o : Option ℕ) → LiesUnder slot Private first f → slot.file ≡ Some file → slot.base ≤ first → IfSome o (λ frame. IsBlockFrom file (slot.index + (first - slot.base)) frame f) → IfNone o ((frame : ℕ) → IsBlockFrom file (slot.index + (first - slot.base)) frame f → ⊥) → IsTrue (is_some o) ↔ IsConsecutive (from_page first) f
+private_exact slot file first f None u e le h n = (λ y. absurd (cc), λ c. absurd (private_back slot file first f u e le n c))
+private_exact slot file first f (Some frame) u e le h n = (λ y. private_block slot file first frame f u e le h, λ c. refl)
+
+-- as it is asked
+pub asked : (s : Setup) (st : StateView) (m : Memory) (slot : SlotView) (page : ℕ) (kind : Kind) (same : Bool) (v : AttrsView) (e : Extent) → StateIs s st m → slot_over st.slots.slots page ≡ Some slot → slot.invalid ≡ false → kind ≡ attr_of page m.stored.flat.attrs → v ≡ st.attrs → e ≡ block_of page → MatchBool same (AllHave (kind_at v) e kind) (SomeOther (kind_at v) e kind) → LevelAsked s st m slot page kind same
+asked s st m slot page kind same v e i o u k h g told = record {
+  is = i;
+  over = o;
+  unmarked = u;
+  kind_is = k;
+  told = subst (λ (x : AttrsView). MatchBool same (AllHave (kind_at x) (block_of page) kind) (SomeOther (kind_at x) (block_of page) kind)) h (subst (λ (x : Extent). MatchBool same (AllHave (kind_at v) x kind) (SomeOther (kind_at v) x kind)) g told);
+}
+
+-- what the frames tell of the block tells its level
+pub judged_whole : (s : Setup) (st : StateView) (m : Memory) (slot : SlotView) (page : ℕ) (kind : Kind) (same : Bool) (range : Option Extent) (first : ℕ) (whole : Bool) → LevelAsked s st m slot page kind same → SlotsStand m.stored.flat → fault.level_of true slot page (not same) true range ≡ Block → first ≡ (block_of page).lo → (LiesUnder slot kind first m.stored.flat → IsTrue whole ↔ IsConsecutive (from_page first) m.stored.flat) → IsTrue whole ↔ IsWholeBlock true page m.stored.flat range
+judged_whole s st m slot page kind same range first whole a stand e f h =
+    let p = passed s st m slot page kind same range a.told e in
+    let g : IsTrue whole ↔ IsConsecutive (from_page (block_of page).lo) m.stored.flat = subst (λ (x : ℕ). LiesUnder slot kind x m.stored.flat → IsTrue whole ↔ IsConsecutive (from_page x) m.stored.flat) f h (lies_under s st m slot page kind same range a stand p) in
+    (λ y. block_or_page s st m slot page kind same range a stand p (g.0 y), λ w. g.1 w.consecutive)

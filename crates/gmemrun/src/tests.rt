@@ -18,6 +18,8 @@ const A_PRIVATE_WRITE: &[u8] =
 
 const HUGE_LEAVES: &[u8] = b"machine frames=4 user=4 vcpus=1 callers=1 huge=on\n";
 
+const HUGE_HEAD: &[u8] = b"gmem-history 2\nmachine frames=4 user=4 vcpus=1 callers=1 huge=on\n";
+
 const HEAD: &[u8] = b"gmem-history 2\nmachine frames=4 user=4 vcpus=1 callers=1 huge=off\n";
 
 const FIRST_READ: &[u8] =
@@ -57,8 +59,8 @@ fn rows_over_sure_ends(rt: HostRuntime) -> Result<(), Fail> {
         ),
         (
             HUGE_LEAVES,
-            Status::BadScript,
-            [b"bad line=1 cause=unbuilt\n", b"", b"", b""],
+            Status::Ok,
+            [HUGE_HEAD, b"", b"", b"end turns=0 entries=0\n"],
         ),
     ];
     for (script, status, pieces) in rows {
