@@ -57,12 +57,14 @@ def help_checks():
     status, text, notes = run(['--help'])
     yield '--help ends with 0', status == 0
     yield '--help builds nothing and notes nothing', notes == ''
-    yield 'seven statuses in status.rt', len(statuses()) == 7
+    yield 'eight statuses in status.rt', len(statuses()) == 8
     for name, number in statuses():
         yield f'--help names {name} with {number}', re.search(rf'^ +{number} +{name}\b', text, re.M) is not None
     most = re.search(r'MOST_SCRIPT_BYTES: usize = ([\d_]+);', (TOP / 'crates/gm_base/src/numbers.rt').read_text())
     yield '--help tells the most bytes of a script', f' {most.group(1).replace("_", "")} bytes' in text
-    for words in ('gmemrun steps', 'gmemrun --look steps', 'gmemrun --help'):
+    most = re.search(r'MOST_HISTORY_BYTES: usize = ([\d_]+);', (TOP / 'crates/gm_history/src/limits.rt').read_text())
+    yield '--help tells the most bytes of a history', f' {most.group(1).replace("_", "")};' in text
+    for words in ('gmemrun steps', 'gmemrun migrate', 'gmemrun --look steps', 'gmemrun --help'):
         yield f'--help tells of {words}', re.search(rf'^ +{words} ', text, re.M) is not None
     scripts = re.findall(r'^ +\./gmemrun .*< (\S+)', text, re.M)
     yield '--help has two examples, and their scripts are there', \

@@ -15,6 +15,7 @@ mod frames;
 mod given;
 mod history;
 mod laws;
+mod limits;
 mod lines;
 mod migrating;
 mod numerals;
@@ -25,6 +26,7 @@ mod version;
 pub use error::{HistoryError, MigrateError};
 pub use history::{History, read_history};
 pub use laws::{one_history, one_up, right_is_brought_up, text_is_of_form};
+pub use limits::MOST_HISTORY_BYTES;
 pub use migrating::migrate;
 
 #[cfg(test)]

@@ -3,12 +3,13 @@ use Rattle.std.proofs.Common.{◌≡◌, List, Option, refl, ℕ}
 use Rattle.gmemrun.specs.Coming.{CameTo, Put, Took}
 use Rattle.gmemrun.specs.Reading.{ReadAll}
 use Rattle.gmemrun.specs.declared.status.Status.{Status}
-use Rattle.gmemrun.specs.declared.status.Status.TheVariants.{Ok, BadScript, Usage, ReadFault, WriteFault, NoMemory, TooLong}
+use Rattle.gmemrun.specs.declared.status.Status.TheVariants.{Ok, BadScript, Usage, ReadFault, WriteFault, NoMemory, TooLong, BadHistory}
 
 -- the statuses of a source that was read to its end
 took_all : (most : ℕ) (status : Status) (left left_after : Option (List ℕ)) (bytes : List ℕ) → ReadAll most left left_after bytes → (status ≡ Usage → ⊥) → (status ≡ ReadFault → ⊥) → (status ≡ TooLong → ⊥) → Took most status left left_after bytes
 took_all most Ok left left_after bytes r u f l = r
 took_all most BadScript left left_after bytes r u f l = r
+took_all most BadHistory left left_after bytes r u f l = r
 took_all most Usage left left_after bytes r u f l = absurd (u refl)
 took_all most ReadFault left left_after bytes r u f l = absurd (f refl)
 took_all most WriteFault left left_after bytes r u f l = r

@@ -1,3 +1,4 @@
 pub mod Coming
 pub mod Complete
 pub mod Exactly
+pub mod Upward

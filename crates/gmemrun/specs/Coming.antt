@@ -6,12 +6,13 @@ use Rattle.std.specs.declared.option.Option.{Option}
 use Rattle.gm_io.specs.Held.{Gains, GainsFront}
 use Rattle.gmemrun.specs.Reading.{ReadAll, TookOneTooMany, TookWithin}
 use Rattle.gmemrun.specs.declared.status.Status.{Status}
-use Rattle.gmemrun.specs.declared.status.Status.TheVariants.{Ok, BadScript, Usage, ReadFault, WriteFault, NoMemory, TooLong}
+use Rattle.gmemrun.specs.declared.status.Status.TheVariants.{Ok, BadScript, Usage, ReadFault, WriteFault, NoMemory, TooLong, BadHistory}
 
 -- what was taken of the source in this call, and whether its end was met. Memory may run out anywhere on the way.
 abbrev pub Took : ℕ → Status → Option (List ℕ) → Option (List ℕ) → List ℕ → Type 0
 Took most Ok old new bytes = ReadAll most old new bytes
 Took most BadScript old new bytes = ReadAll most old new bytes
+Took most BadHistory old new bytes = ReadAll most old new bytes
 Took most WriteFault old new bytes = ReadAll most old new bytes
 Took most Usage old new bytes = new ≡ old
 Took most ReadFault old new bytes = TookWithin most old new bytes
@@ -35,6 +36,7 @@ pub record PutFront (Due : List ℕ → Status → List ℕ → Type 0) (bytes :
 abbrev pub Put : (List ℕ → Status → List ℕ → Type 0) → List ℕ → Status → Option (List ℕ) → Option (List ℕ) → Type 0
 Put Due bytes Ok old new = PutAll Due bytes Ok old new
 Put Due bytes BadScript old new = PutAll Due bytes BadScript old new
+Put Due bytes BadHistory old new = PutAll Due bytes BadHistory old new
 Put Due bytes WriteFault old new = PutFront Due bytes old new
 Put Due bytes Usage old new = new ≡ old
 Put Due bytes ReadFault old new = new ≡ old

@@ -1,4 +1,5 @@
 pub mod Coming
+pub mod Migrating
 pub mod Reading
 pub mod Refusal
 pub mod Running

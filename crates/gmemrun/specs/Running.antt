@@ -11,7 +11,7 @@ use Rattle.gm_script.specs.declared.error.Cause.{Cause}
 use Rattle.gm_text.specs.Text.{history_text}
 use Rattle.gmemrun.specs.Refusal.{refusal_text}
 use Rattle.gmemrun.specs.declared.status.Status.{Status}
-use Rattle.gmemrun.specs.declared.status.Status.TheVariants.{Ok, BadScript, Usage, ReadFault, WriteFault, NoMemory, TooLong}
+use Rattle.gmemrun.specs.declared.status.Status.TheVariants.{Ok, BadScript, Usage, ReadFault, WriteFault, NoMemory, TooLong, BadHistory}
 
 -- the bytes form a script, and this is the text of a history, oldest entry first, that is right and plays its turns.
 -- It is the only one: each history that is right and plays these turns differs from it in nothing but the spare room of
@@ -42,6 +42,7 @@ StepsDue bytes ReadFault text = ⊥
 StepsDue bytes WriteFault text = ⊥
 StepsDue bytes NoMemory text = ⊥
 StepsDue bytes TooLong text = ⊥
+StepsDue bytes BadHistory text = ⊥
 
 -- how a run ends where neither end failed
 abbrev pub EndsAs : Verdict → Status → Type 0

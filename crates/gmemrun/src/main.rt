@@ -1,6 +1,8 @@
-//! `gmemrun steps` reads a script from standard input and writes the history of its turns to standard output.
+//! `gmemrun steps` reads a script from standard input and writes the history of its turns to standard output;
+//! `gmemrun migrate` reads a history of version 1 and writes it in version 2.
 #![tactic(auto)]
 
+mod migrating;
 mod read;
 mod refusal;
 mod status;
@@ -8,6 +10,7 @@ mod steps;
 mod top;
 
 use gm_io::{OpenGate, ReaderSource, WriterSink};
+pub use migrating::run_migrate;
 pub use status::Status;
 use std::alloc::{AllocError, Global};
 use std::process::ExitCode;

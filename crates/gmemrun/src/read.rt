@@ -1,11 +1,11 @@
 //! Reads a source to its end.
 
-ghost use Rattle.std.specs.Prelude.{◌≡◌, ◌+◌, ◌++◌, ◌<◌, ◌≤◌, [], List, ℕ, length, take, IfOk, OnOk, IsErrOf};
+ghost use Rattle.std.specs.Prelude.{◌≡◌, ◌+◌, ◌++◌, ◌<◌, ◌≤◌, ◌^◌, [], List, ℕ, length, take, IfOk, OnOk, IsErrOf};
 ghost use Rattle.std.specs.Io.KnownBytes.{Consumes, IsAtEnd};
 ghost use Rattle.gm_io.specs.Causes.{Rose};
 ghost use Rattle.gmemrun.specs.Reading.{ReadAll, TookOneTooMany, TookWithin};
 
-use gm_base::{MOST_SCRIPT_BYTES, NoMemory};
+use gm_base::NoMemory;
 use gm_io::Source;
 use std::alloc::Global;
 
@@ -20,12 +20,13 @@ pub enum Unread {
 // A source is asked for pieces of this size, so that a script takes few calls.
 const PIECE: usize = 65_536;
 
-/// Reads to the end, at most 16,777,216 bytes. `TooLong` comes where one byte more was taken.
-pub fn read_all<S: Source>(alloc: Global, source: &mut S) -> Result<Vec<u8>, Unread>
-    ensures bytes { IfOk result (λ v. ReadAll MOST_SCRIPT_BYTES (S.left source.old) (S.left source.new) v.items) }
+/// Reads to the end, and no more bytes than may be. `TooLong` comes where one byte more was taken.
+pub fn read_all<S: Source>(alloc: Global, most: usize, source: &mut S) -> Result<Vec<u8>, Unread>
+    requires { most < 2 ^ 32 }
+    ensures bytes { IfOk result (λ v. ReadAll most (S.left source.old) (S.left source.new) v.items) }
     ensures failed { IsErrOf result Unread.Failed → Rose (S.faults source.old) (S.faults source.new) }
-    ensures few { IsErrOf result Unread.Failed → (bytes : List ℕ) × TookWithin MOST_SCRIPT_BYTES (S.left source.old) (S.left source.new) bytes }
-    ensures long { IsErrOf result Unread.TooLong → (bytes : List ℕ) × TookOneTooMany MOST_SCRIPT_BYTES (S.left source.old) (S.left source.new) bytes }
+    ensures few { IsErrOf result Unread.Failed → (bytes : List ℕ) × TookWithin most (S.left source.old) (S.left source.new) bytes }
+    ensures long { IsErrOf result Unread.TooLong → (bytes : List ℕ) × TookOneTooMany most (S.left source.old) (S.left source.new) bytes }
     ensures later { S.faults source.old ≤ S.faults source.new }
 {
     let mut bytes = Vec::new(alloc);
@@ -33,8 +34,8 @@ pub fn read_all<S: Source>(alloc: Global, source: &mut S) -> Result<Vec<u8>, Unr
         Ok(buffer) => buffer,
         Err(NoMemory) => return Err(Unread::NoMemory),
     };
-    while bytes.len() <= MOST_SCRIPT_BYTES {
-        match read_some(source, &mut buffer, &mut bytes) {
+    while bytes.len() <= most {
+        match read_some(most, source, &mut buffer, &mut bytes) {
             Ok(0) => return Ok(bytes),
             Ok(_) => {}
             Err(unread) => return Err(unread),
@@ -52,22 +53,24 @@ fn empty_buffer(alloc: Global) -> Result<Vec<u8>, NoMemory>
 
 // Reads some more, and no more than one byte past the most.
 fn read_some<S: Source>(
+    most: usize,
     source: &mut S,
     buffer: &mut Vec<u8>,
     bytes: &mut Vec<u8>,
 ) -> Result<usize, Unread>
-    requires short { length bytes.old.items ≤ MOST_SCRIPT_BYTES }
+    requires most { most < 2 ^ 32 }
+    requires short { length bytes.old.items ≤ most }
     requires room { length buffer.old.items ≡ 65536 }
     ensures bytes { IfOk result (λ n. (more : List ℕ) × (length more ≡ n) × (bytes.new.items ≡ bytes.old.items ++ more) × Consumes (S.left source.old) (S.left source.new) more) }
     ensures end { IfOk result (λ n. n ≡ 0 → IsAtEnd (S.left source.new)) }
-    ensures short { OnOk result (length bytes.new.items ≤ MOST_SCRIPT_BYTES + 1) }
+    ensures short { OnOk result (length bytes.new.items ≤ most + 1) }
     ensures room { length buffer.new.items ≡ 65536 }
     ensures later { S.faults source.old ≤ S.faults source.new }
     ensures failed { IsErrOf result Unread.Failed → Rose (S.faults source.old) (S.faults source.new) }
     ensures none { IsErrOf result Unread.Failed → Consumes (S.left source.old) (S.left source.new) [] }
     ensures not_long { IsErrOf result Unread.TooLong → ⊥ }
 {
-    let room = (MOST_SCRIPT_BYTES + 1 - bytes.len()).min(PIECE);
+    let room = (most + 1 - bytes.len()).min(PIECE);
     let piece = buffer.as_mut_slice();
     match source.take(&mut piece[..room]) {
         Ok(count) => match bytes.extend_from_slice(&piece[..count]) {

@@ -18,8 +18,10 @@ pub enum Status {
     WriteFault,
     /// Memory ran out. Nothing was written.
     NoMemory,
-    /// The source has more bytes than a script may have. Nothing was written.
+    /// The source has more bytes than a script, or a history, may have. Nothing was written.
     TooLong,
+    /// The bytes are no history of version 1, and the line that says so was written.
+    BadHistory,
 }
 
 impl Status {
@@ -35,6 +37,7 @@ impl Status {
             Status::WriteFault => 4,
             Status::NoMemory => 5,
             Status::TooLong => 6,
+            Status::BadHistory => 7,
         }
     }
 }

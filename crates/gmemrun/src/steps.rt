@@ -30,7 +30,7 @@ pub fn run_steps<S: Source, K: Sink>(alloc: Global, source: &mut S, sink: &mut K
     ensures usage { result ≡ Status.Usage → ⊥ }
     ensures complete { (Rose (S.faults source.old) (S.faults source.new) → ⊥) → (Rose (K.faults sink.old) (K.faults sink.new) → ⊥) → IfSome (S.left source.old) (λ bytes. EndsBy bytes result) }
 {
-    match read_all(alloc, source) {
+    match read_all(alloc, MOST_SCRIPT_BYTES, source) {
         Ok(bytes) => run_bytes(alloc, &bytes, sink),
         Err(Unread::Failed) => Status::ReadFault,
         Err(Unread::TooLong) => Status::TooLong,

@@ -1,12 +1,15 @@
 //! The call that does all that the program does.
 
-ghost use Rattle.std.specs.Prelude.{◌≡◌, ◌↔◌, ◌⊎◌, IfSome, IsTrue};
+ghost use Rattle.std.specs.Prelude.{◌≡◌, ◌↔◌, ◌⊎◌, IfSome, IsTrue, List, ℕ, codes};
+ghost use Rattle.gm_history.specs.declared.limits.TheConstants.{MOST_HISTORY_BYTES};
 ghost use Rattle.gm_io.specs.Causes.{Rose};
-ghost use Rattle.gmemrun.specs.Reading.{TookTooMuch};
 ghost use Rattle.gmemrun.specs.Coming.{CameTo, PutAll};
+ghost use Rattle.gmemrun.specs.Migrating.{MigrateDue, MigrateEndsBy};
+ghost use Rattle.gmemrun.specs.Reading.{TookTooMuch};
 ghost use Rattle.gmemrun.specs.Running.{EndsBy, StepsDue};
-ghost use Rattle.gmemrun.specs.Words.{IsSteps};
+ghost use Rattle.gmemrun.specs.Words.{IsMigrate, IsSteps};
 
+use crate::migrating::run_migrate;
 use crate::status::Status;
 use crate::steps::run_steps;
 use gm_base::MOST_SCRIPT_BYTES;
@@ -24,7 +27,17 @@ fn says_steps(words: &[String]) -> bool
     }
 }
 
-/// Does what the words say: for `steps` what `run_steps` does, and for all other words nothing.
+fn says_migrate(words: &[String]) -> bool
+    ensures { IsTrue result ↔ IsMigrate words.now }
+{
+    match words {
+        [word] => word.as_str() == "migrate",
+        _ => false,
+    }
+}
+
+/// Does what the words say: for `steps` what `run_steps` does, for `migrate` what `run_migrate` does, and for all other
+/// words nothing.
 pub fn run<R: Threads + Wait + Sync, S: Source, K: Sink, G: Gate + Sync>(
     _rt: &R,
     alloc: Global,
@@ -33,16 +46,29 @@ pub fn run<R: Threads + Wait + Sync, S: Source, K: Sink, G: Gate + Sync>(
     sink: &mut K,
     _gate: &G,
 ) -> Status
-    ensures usage { result ≡ Status.Usage ↔ ¬ IsSteps words.now }
-    ensures came_to { CameTo MOST_SCRIPT_BYTES StepsDue result (S.left source.old) (S.left source.new) (K.held sink.old) (K.held sink.new) }
+    ensures usage { result ≡ Status.Usage ↔ ((IsSteps words.now → ⊥) × (IsMigrate words.now → ⊥)) }
+    ensures unread { result ≡ Status.Usage → S.left source.new ≡ S.left source.old }
+    ensures unwritten { result ≡ Status.Usage → K.held sink.new ≡ K.held sink.old }
     ensures read_fault { result ≡ Status.ReadFault → Rose (S.faults source.old) (S.faults source.new) }
     ensures write_fault { result ≡ Status.WriteFault → Rose (K.faults sink.old) (K.faults sink.new) }
-    ensures long_only { IfSome (S.left source.old) (λ _. TookTooMuch MOST_SCRIPT_BYTES (S.left source.old) (S.left source.new) → (result ≡ Status.TooLong) ⊎ (result ≡ Status.NoMemory)) }
-    ensures bad_only { IfSome (S.left source.old) (λ bytes. IfSome (K.held sink.new) (λ _. PutAll StepsDue bytes Status.BadScript (K.held sink.old) (K.held sink.new) → result ≡ Status.BadScript)) }
+
+    // For `steps`.
+    ensures came_to { IsSteps words.now → CameTo MOST_SCRIPT_BYTES StepsDue result (S.left source.old) (S.left source.new) (K.held sink.old) (K.held sink.new) }
+    ensures long_only { IsSteps words.now → IfSome (S.left source.old) (λ _. TookTooMuch MOST_SCRIPT_BYTES (S.left source.old) (S.left source.new) → (result ≡ Status.TooLong) ⊎ (result ≡ Status.NoMemory)) }
+    ensures bad_only { IsSteps words.now → IfSome (S.left source.old) (λ bytes. IfSome (K.held sink.new) (λ _. PutAll StepsDue bytes Status.BadScript (K.held sink.old) (K.held sink.new) → result ≡ Status.BadScript)) }
     ensures complete { IsSteps words.now → (Rose (S.faults source.old) (S.faults source.new) → ⊥) → (Rose (K.faults sink.old) (K.faults sink.new) → ⊥) → IfSome (S.left source.old) (λ bytes. EndsBy bytes result) }
+
+    // For `migrate`.
+    ensures migrate_came_to { IsMigrate words.now → CameTo MOST_HISTORY_BYTES MigrateDue result (S.left source.old) (S.left source.new) (K.held sink.old) (K.held sink.new) }
+    ensures migrate_long_only { IsMigrate words.now → IfSome (S.left source.old) (λ _. TookTooMuch MOST_HISTORY_BYTES (S.left source.old) (S.left source.new) → (result ≡ Status.TooLong) ⊎ (result ≡ Status.NoMemory)) }
+    ensures migrate_bad_only { IsMigrate words.now → IfSome (S.left source.old) (λ bytes. IfSome (K.held sink.new) (λ _. PutAll MigrateDue bytes Status.BadHistory (K.held sink.old) (K.held sink.new) → result ≡ Status.BadHistory)) }
+    ensures migrate_complete { IsMigrate words.now → (Rose (S.faults source.old) (S.faults source.new) → ⊥) → (Rose (K.faults sink.old) (K.faults sink.new) → ⊥) → IfSome (S.left source.old) (λ bytes. MigrateEndsBy bytes result) }
 {
-    if !says_steps(words) {
-        return Status::Usage;
+    if says_steps(words) {
+        return run_steps(alloc, source, sink);
     }
-    run_steps(alloc, source, sink)
+    if says_migrate(words) {
+        return run_migrate(alloc, source, sink);
+    }
+    Status::Usage
 }

@@ -8,7 +8,8 @@ use Rattle.gm_io.specs.Held.{Gains, GainsFront}
 use Rattle.gm_machine.proofs.Playing.{plays_turns}
 use Rattle.gm_script.specs.Grammar.{script_of, Bad}
 use Rattle.gm_text.specs.Text.{history_text}
-use Rattle.gmemrun.proofs.Exactly.{not_refused, not_whole}
+use Rattle.gmemrun.proofs.Exactly.{not_refused, not_whole, one_refusal, steps_text}
+use Rattle.gmemrun.specs.Running.{StepsDue}
 use Rattle.gmemrun.specs.Refusal.{refusal_text}
 use Rattle.gmemrun.specs.declared.status.Status.TheVariants.{BadScript, Ok}
 use Rattle.gmemrun.proofs.steps.run_bytes.Goals as goal
@@ -73,8 +74,8 @@ returns-in-Err-BadLine-clause-put g c =
 pub returns-in-Err-BadLine-clause-bad_only : goal.returns-in-Err-BadLine-clause-bad_only
 returns-in-Err-BadLine-clause-bad_only g c =
     let bad : script_of c.args.bytes.now ≡ Bad c.in-Err-BadLine.line c.in-Err-BadLine.cause = rw c.in-Err-BadLine.field-0-is at c.in-Err-BadLine.ensures.bad in
-    not_whole _ c.args.bytes.now c.in-Err-BadLine.line c.in-Err-BadLine.cause (g.K.Sink.held c.args.sink.now) (g.K.Sink.held c.write_refusal.new.sink) bad
+    not_whole _ StepsDue BadScript c.args.bytes.now (refusal_text c.in-Err-BadLine.line c.in-Err-BadLine.cause) (g.K.Sink.held c.args.sink.now) (g.K.Sink.held c.write_refusal.new.sink) (one_refusal c.args.bytes.now c.in-Err-BadLine.line c.in-Err-BadLine.cause bad)
     (rw (c.in-Err-BadLine.line-is, c.in-Err-BadLine.cause-is) at (c.in-Err-write_refusal.ensures {u = tt}).wrote)
 
 pub returns-clause-bad_only : goal.returns-clause-bad_only
-returns-clause-bad_only g c = not_refused _ c.args.bytes.now (g.K.Sink.held c.args.sink.now)
+returns-clause-bad_only g c = not_refused _ StepsDue BadScript c.args.bytes.now (g.K.Sink.held c.args.sink.now) steps_text

@@ -3,7 +3,8 @@ use Rattle.std.proofs.KnownBytes.{Consumes-whole}
 use Rattle.gm_base.specs.declared.numbers.TheConstants.{MOST_SCRIPT_BYTES}
 use Rattle.gmemrun.proofs.Coming.{came}
 use Rattle.gmemrun.proofs.Complete.{by_bytes}
-use Rattle.gmemrun.proofs.Exactly.{PutLine, not_long, silent}
+use Rattle.gmemrun.proofs.Exactly.{not_long, silent, steps_text}
+use Rattle.gmemrun.specs.Coming.{PutAll}
 use Rattle.gmemrun.specs.Running.{EndsBy, StepsDue}
 use Rattle.gmemrun.specs.declared.status.Status.TheVariants.{BadScript}
 use Rattle.gmemrun.proofs.steps.run_steps.Goals as goal
@@ -32,25 +33,25 @@ returns-in-Ok-clause-complete g c = λ read write.
     (by_bytes c.in-Ok.bytes.items c.run_bytes.result c.in-Ok.ensures.bytes.within (rw c.deref.ensures.value at (c.run_bytes.ensures.complete write)))
 
 pub returns-in-Ok-clause-long_only : goal.returns-in-Ok-clause-long_only
-returns-in-Ok-clause-long_only g c = not_long _ (g.S.Source.left c.args.source.now) (g.S.Source.left c.read_all.new.source) c.in-Ok.bytes.items c.in-Ok.ensures.bytes.taken c.in-Ok.ensures.bytes.within
+returns-in-Ok-clause-long_only g c = not_long _ MOST_SCRIPT_BYTES (g.S.Source.left c.args.source.now) (g.S.Source.left c.read_all.new.source) c.in-Ok.bytes.items c.in-Ok.ensures.bytes.taken c.in-Ok.ensures.bytes.within
 
 pub returns-in-Ok-clause-bad_only : goal.returns-in-Ok-clause-bad_only
 returns-in-Ok-clause-bad_only g c =
     Consumes-whole (g.S.Source.left c.args.source.now) (g.S.Source.left c.read_all.new.source) c.in-Ok.bytes.items
-    (λ (bytes : List ℕ). IfSome (g.K.Sink.held c.run_bytes.new.sink) (λ _. PutLine bytes (g.K.Sink.held c.args.sink.now) (g.K.Sink.held c.run_bytes.new.sink) → c.run_bytes.result ≡ BadScript))
+    (λ (bytes : List ℕ). IfSome (g.K.Sink.held c.run_bytes.new.sink) (λ _. PutAll StepsDue bytes BadScript (g.K.Sink.held c.args.sink.now) (g.K.Sink.held c.run_bytes.new.sink) → c.run_bytes.result ≡ BadScript))
     c.in-Ok.ensures.bytes.taken c.in-Ok.ensures.bytes.end
     (rw c.deref.ensures.value at c.run_bytes.ensures.bad_only)
 
 pub returns-in-Err-Failed-clause-long_only : goal.returns-in-Err-Failed-clause-long_only
 returns-in-Err-Failed-clause-long_only g c =
     let t = c.in-Err-Failed.ensures.few (ap Err c.in-Err-Failed.field-0-is) in
-    not_long _ (g.S.Source.left c.args.source.now) (g.S.Source.left c.read_all.new.source) t.0 t.1.taken t.1.within
+    not_long _ MOST_SCRIPT_BYTES (g.S.Source.left c.args.source.now) (g.S.Source.left c.read_all.new.source) t.0 t.1.taken t.1.within
 
 pub returns-in-Err-Failed-clause-bad_only : goal.returns-in-Err-Failed-clause-bad_only
-returns-in-Err-Failed-clause-bad_only g c = silent _ (g.S.Source.left c.args.source.now) (g.K.Sink.held c.args.sink.now)
+returns-in-Err-Failed-clause-bad_only g c = silent _ StepsDue BadScript (g.S.Source.left c.args.source.now) (g.K.Sink.held c.args.sink.now) steps_text
 
 pub returns-in-Err-TooLong-clause-bad_only : goal.returns-in-Err-TooLong-clause-bad_only
-returns-in-Err-TooLong-clause-bad_only g c = silent _ (g.S.Source.left c.args.source.now) (g.K.Sink.held c.args.sink.now)
+returns-in-Err-TooLong-clause-bad_only g c = silent _ StepsDue BadScript (g.S.Source.left c.args.source.now) (g.K.Sink.held c.args.sink.now) steps_text
 
 pub returns-in-Err-NoMemory-clause-bad_only : goal.returns-in-Err-NoMemory-clause-bad_only
-returns-in-Err-NoMemory-clause-bad_only g c = silent _ (g.S.Source.left c.args.source.now) (g.K.Sink.held c.args.sink.now)
+returns-in-Err-NoMemory-clause-bad_only g c = silent _ StepsDue BadScript (g.S.Source.left c.args.source.now) (g.K.Sink.held c.args.sink.now) steps_text

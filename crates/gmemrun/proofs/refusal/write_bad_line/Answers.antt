@@ -1,5 +1,5 @@
 use Rattle.gm_io.proofs.Adding.{Wrote_put, Wrote_fails}
-use Rattle.gmemrun.proofs.refusal.write_refusal.Goals as goal
+use Rattle.gmemrun.proofs.refusal.write_bad_line.Goals as goal
 
 pub returns-in-Err-clause-wrote : goal.returns-in-Err-clause-wrote
 returns-in-Err-clause-wrote g c = Wrote_fails _ _ _ _ _ _ _ (rw c.new-out.ensures at (c.in-Err.ensures {u = tt}))
