@@ -1,4 +1,4 @@
--- What contracts see of the ends in memory and over std's readers and writers.
+-- What contracts see of the ends in memory, and of those that pass on short pieces.
 use Rattle.std.specs.Prelude.{ℕ, List, Bool, true, false, None, Some}
 use Rattle.std.specs.declared.option.Option.{Option}
 
@@ -30,3 +30,8 @@ told_by false bytes = Some bytes
 
 abbrev pub told : Kept → Option (List ℕ)
 told k = told_by k.lost k.bytes
+
+-- an end, and the most bytes that it is handed at a time
+pub record Short (End : Type 0) : Type 0 where
+  pub inner : End
+  pub most : ℕ

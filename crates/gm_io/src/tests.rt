@@ -54,6 +54,22 @@ fn what_a_sink_did_not_take_waits(rt: HostRuntime) -> Result<(), Fail> {
 }
 
 #[test]
+fn short_ends_pass_on_pieces(rt: HostRuntime) -> Result<(), Fail> {
+    let mut source = ShortSource::new(SureSource::new(b"abc"), 2);
+    let mut into = [0u8; 9];
+    for (count, piece) in [(2, b"ab".as_slice()), (1, b"c"), (0, b"")] {
+        assert_eq!(rt; source.take(&mut into), Ok(count));
+        assert_eq!(rt; &into[..count], piece);
+    }
+    let inner = MemorySink::new(rt.alloc(), 9, &[3]).ok().ok_or("memory")?;
+    let mut sink = ShortSink::new(inner, 2);
+    assert_eq!(rt; put_all(&mut sink, b"abc"), Ok(()));
+    assert_eq!(rt; put_all(&mut sink, b"def"), Err(Failed));
+    assert_eq!(rt; sink.inner().held(), b"abcde".as_slice());
+    Ok(())
+}
+
+#[test]
 fn std_ends_are_ends(rt: HostRuntime) -> Result<(), Fail> {
     let mut source = ReaderSource::new(b"ab".as_slice());
     let mut into = [0u8; 3];

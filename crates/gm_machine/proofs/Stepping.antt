@@ -3,6 +3,7 @@ use Rattle.std.proofs.Common.{◌≡◌, ℕ, ◌+◌, List, [], ◌∷◌, Bool
 use Rattle.std.proofs.lemmas.Bool.{both_ways}
 use Rattle.std.proofs.lemmas.List.{length-replicate}
 use Rattle.gm_base.specs.Scripts.{Orders}
+use Rattle.gm_base.specs.declared.script.Command.{Command}
 use Rattle.gm_base.specs.declared.values.Actor.{Actor}
 use Rattle.gm_base.specs.declared.values.Actor.TheVariants.{Vcpu, Caller}
 use Rattle.gm_base.specs.declared.values.Setup.{Setup}
@@ -13,6 +14,7 @@ use Rattle.gm_machine.proofs.Flagging.{flag_either, flag_lengths, flag_of-no_fla
 use Rattle.gm_machine.specs.Flags.{Flags, no_flags, with_flag}
 use Rattle.gm_machine.specs.Room.{RoomIsKept}
 use Rattle.gm_machine.specs.Steps.{Goes, Kicks, Moves, Seen}
+use Rattle.gm_turns.specs.Pushing.{IsLonger}
 use Rattle.gm_turns.specs.Ready.{Commanded, CoreStands, IsWithinLimits, Settled, Turned}
 use Rattle.gm_turns.specs.Room.{IsRoomyFor, orders_of}
 use Rattle.gm_turns.specs.Turning.{IsRoomier, Kicked, Taken}
@@ -74,6 +76,14 @@ room_roomier old new room m r = record {
   room_vcpus = r.room_vcpus ∙ sym (ap (λ (x : Orders). x.setup.vcpus) m.orders);
   room_callers = r.room_callers ∙ sym (ap (λ (x : Orders). x.setup.callers) m.orders);
   roomy = λ a e. m.kept a (r.roomy a e);
+}
+
+-- and where an actor has a command more
+pub room_longer : (old new : Core) (room : Flags) (a : Actor) (command : Command) → IsLonger old new a command → RoomIsKept old room → RoomIsKept new room
+room_longer old new room a command l r = record {
+  room_vcpus = r.room_vcpus ∙ sym (ap (λ (x : Orders). x.setup.vcpus) l.orders);
+  room_callers = r.room_callers ∙ sym (ap (λ (x : Orders). x.setup.callers) l.orders);
+  roomy = λ b e. l.kept b (r.roomy b e);
 }
 
 pub room_set : (k : Core) (room : Flags) (a : Actor) → RoomIsKept k room → IsRoomyFor k a → RoomIsKept k (with_flag room a)

@@ -1,3 +1,4 @@
+pub mod Blockers
 pub mod Flags
 pub mod Played
 pub mod Room

@@ -21,8 +21,8 @@ use std::marker::Model;
 /// The core, whose history is right, and who has room for a turn.
 #[derive(Drop)]
 pub struct Machine {
-    core: Core,
-    room: ActorFlags,
+    pub(crate) core: Core,
+    pub(crate) room: ActorFlags,
 }
 
 impl Model for Machine {

@@ -3,7 +3,7 @@
 ghost use Rattle.std.specs.Prelude.{◌≡◌, IfOk};
 ghost use Rattle.gm_base.specs.declared.values.Setup.{Setup};
 ghost use Rattle.gm_flat.specs.Attribute.{attr_of};
-ghost use Rattle.gm_flat.specs.Slots.{slot_over};
+ghost use Rattle.gm_flat.specs.Slots.{slot_by_id, slot_over};
 ghost use Rattle.gm_state.specs.Stand.{Memory, StateIs, at_start};
 
 use gm_attr::Attrs;
@@ -77,6 +77,13 @@ impl State {
         ensures { (s : Setup) (m : Memory) → StateIs s self.now m → result ≡ slot_over m.stored.flat.slots page }
     {
         self.slots.find(page)
+    }
+
+    /// The slot with an id.
+    pub fn by_id(&self, id: u32) -> Option<SlotView>
+        ensures { (s : Setup) (m : Memory) → StateIs s self.now m → result ≡ slot_by_id m.stored.flat.slots id }
+    {
+        self.slots.by_id(id)
     }
 
     /// The attribute of a page.

@@ -26,8 +26,8 @@ use Rattle.gm_base.specs.declared.calls.Ioctl.{Ioctl}
 use Rattle.gm_state.specs.Stand.{Applied}
 use Rattle.gm_state.specs.Views.{StateView}
 use Rattle.gm_store.specs.Stored.{applied as stored_after}
+use Rattle.gm_turns.proofs.Blocking.{slots_apart}
 use Rattle.gm_turns.proofs.FewDue.{few_cut, few_frames, few_shut}
-use Rattle.gm_turns.proofs.JudgeTurns.{slots_apart}
 use Rattle.gm_turns.specs.Brackets.{ioctl_in}
 use Rattle.gm_turns.specs.Ready.{IsReady}
 use Rattle.gm_turns.specs.Room.{HasCallRoom, HasChangeRoom, HasStepRoom, orders_of}
@@ -54,7 +54,7 @@ can_make k c effect r at =
     record {
       is = r.settled.stands.state.is;
       makes = subst (λ (q : Plan). Promised k.setup i (flat k.log.past) q) p.is (promises k.setup i (flat k.log.past));
-      apart = slots_apart k c r;
+      apart = slots_apart k r.settled;
       small = r.settled.limits.user;
     }
 

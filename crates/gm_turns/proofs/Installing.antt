@@ -1,5 +1,5 @@
 -- A fault that installs its leaf.
-use Rattle.std.proofs.Common.{◌≡◌, ℕ, ◌+◌, ◌&&◌, ◌||◌, List, Bool, true, false, not, set, Option, Some, None, refl, ap, cond, eqb, subst, ◌∙◌}
+use Rattle.std.proofs.Common.{◌≡◌, ℕ, ◌+◌, ◌&&◌, ◌||◌, List, Bool, true, false, not, set, Option, Some, None, refl, ap, cond, eqb, subst, sym, ◌∙◌}
 use Rattle.gm_base.specs.Aim.{Aim}
 use Rattle.gm_base.specs.declared.values.Actor.TheVariants.{Vcpu as OfVcpu}
 use Rattle.gm_base.specs.declared.values.Folio.{Folio}
@@ -10,7 +10,9 @@ use Rattle.gm_base.specs.Extent.{Extent}
 use Rattle.gm_callers.proofs.Stays as callers
 use Rattle.gm_fault.specs.declared.ticket.Ticket.{Ticket}
 use Rattle.gm_flat.specs.Attribute.{attr_of}
-use Rattle.gm_flat.specs.FlatState.{cached}
+use Rattle.gm_base.specs.declared.leaf.Leaf.{Leaf}
+use Rattle.gm_base.specs.declared.values.Kind.{Kind}
+use Rattle.gm_flat.specs.FlatState.{Flat, cached}
 use Rattle.gm_flat.specs.NamedPage.{unmarked}
 use Rattle.gm_flat.specs.Invalidation.{hull}
 use Rattle.gm_flat.specs.Replay.{flat}
@@ -32,7 +34,7 @@ use Rattle.gm_laws.specs.May.{May}
 use Rattle.gm_laws.specs.SlotsStand.{SlotsStand}
 use Rattle.gm_laws.specs.TouchFrames.{HasItsFrame}
 use Rattle.gm_mapping.proofs.Filling.{InstallsIn, installed}
-use Rattle.gm_mapping.specs.Alike.{LieAlike}
+use Rattle.gm_mapping.specs.Alike.{LieAlike, leaf_of}
 use Rattle.gm_mmu.specs.Served.{Serving}
 use Rattle.gm_state.specs.Holding.{IsReleasable, freed_by, released}
 use Rattle.gm_state.specs.Levels.{IsLevel}
@@ -174,13 +176,19 @@ install_turn k v a b level m st r h l i after =
     level_is Block huge page past l = l
 
 -- the level that is asked for is the rule's
-pub level_asked : (k : Core) (v : ℕ) (a : Aim) (level : Level) → IsReady k (OfVcpu v) → ((s : Setup) (m : Memory) → StateIs s k.state m → SlotsStand m.stored.flat → IsLevel level k.setup.huge a.page m.stored.flat (open_range k.mmu.progress)) → IsLevel level k.setup.huge a.page (flat k.log.past) (hull k.log.past)
-level_asked k v a level r h = subst (λ (x : Option Extent). IsLevel level k.setup.huge a.page (flat k.log.past) x) r.settled.stands.mapping.range_is (h k.setup (memory_of k.setup k.log.past) r.settled.stands.state.is (can_be_seen k v r).stand)
+pub level_asked : (k : Core) (v : ℕ) (a : Aim) (level : Level) (page : ℕ) (range : Option Extent) → IsReady k (OfVcpu v) → page ≡ a.page → range ≡ open_range k.mmu.progress → ((s : Setup) (m : Memory) → StateIs s k.state m → SlotsStand m.stored.flat → IsLevel level k.setup.huge page m.stored.flat range) → IsLevel level k.setup.huge a.page (flat k.log.past) (hull k.log.past)
+level_asked k v a level page range r e g h =
+    subst (λ (p : ℕ). IsLevel level k.setup.huge p (flat k.log.past) (hull k.log.past)) e
+    (subst (λ (x : Option Extent). IsLevel level k.setup.huge page (flat k.log.past) x) (g ∙ r.settled.stands.mapping.range_is)
+    (h k.setup (memory_of k.setup k.log.past) r.settled.stands.state.is (can_be_seen k v r).stand))
 
 -- a leaf of a block lies as its backing does
 pub may_make_leaf : (k : Core) (v : ℕ) (a : Aim) (b : Backing) (level : Level) → IsReady k (OfVcpu v) → HasGot (vcpu_at k.vcpus v).fault a b k.mmu.progress false → IsLevel level k.setup.huge a.page (flat k.log.past) (hull k.log.past) → level ≡ Block → LieAlike a.page b
 may_make_leaf k v a b level r h l e = lie_alike k.setup.huge a b (flat k.log.past) (hull k.log.past) (putting k v a b r (having k v a b false r h)) (subst (λ (x : Level). IsLevel x k.setup.huge a.page (flat k.log.past) (hull k.log.past)) e l)
 
--- whether guests may write the leaf that is installed
-pub written_is : (a : Aim) (slots : List SlotView) (o : Option SlotView) (written : Bool) → written ≡ may_be_written a.kind o → o ≡ slot_over slots a.page → written ≡ may_be_written a.kind (slot_over slots a.page)
-written_is a slots o written e g = e ∙ ap (may_be_written a.kind) g
+-- the leaf that is installed
+pub leaf_is : (level : Level) (a : Aim) (b : Backing) (f : Flat) (page : ℕ) (kind : Kind) (o : Option SlotView) (written : Bool) (leaf : Leaf) → leaf ≡ leaf_of level page kind b written → page ≡ a.page → kind ≡ a.kind → written ≡ may_be_written kind o → o ≡ slot_over f.slots page → leaf ≡ new_leaf level a b f
+leaf_is level a b f page kind o written leaf e g h w n =
+    let slot : o ≡ slot_over f.slots a.page = n ∙ ap (λ (p : ℕ). slot_over f.slots p) g in
+    let writes : written ≡ may_be_written a.kind (slot_over f.slots a.page) = w ∙ (ap (λ (k : Kind). may_be_written k o) h ∙ ap (may_be_written a.kind) slot) in
+    e ∙ (ap (λ (p : ℕ). leaf_of level p kind b written) g ∙ (ap (λ (k : Kind). leaf_of level a.page k b written) h ∙ ap (λ (x : Bool). leaf_of level a.page a.kind b x) writes))

@@ -33,30 +33,21 @@ use Rattle.gm_flat.specs.declared.effect.Reply.{Reply}
 use Rattle.gm_flat.specs.declared.effect.Reply.TheVariants.{Bad, Good}
 use Rattle.gm_flat.specs.declared.entry.What.TheVariants.{Answer, Judge}
 use Rattle.gm_laws.proofs.Kit.{by}
-use Rattle.gm_laws.proofs.RuledIsRight.{right}
-use Rattle.gm_laws.proofs.SlotsKeep.{slots_now}
 use Rattle.gm_laws.specs.May.{May}
-use Rattle.gm_laws.specs.SlotsStand.{SlotsStand}
 use Rattle.gm_mapping.proofs.Quiet as mapping
-use Rattle.gm_state.proofs.Lending.{IsLent, lent}
+use Rattle.gm_state.proofs.Lending.{IsLent}
 use Rattle.gm_state.proofs.PlannedReads.{reads_inside}
+use Rattle.gm_turns.proofs.Blocking.{lent_stands}
 use Rattle.gm_turns.proofs.OneTurn.{one_entry, two_entries}
 use Rattle.gm_turns.proofs.StateQuiet as state
 use Rattle.gm_turns.specs.Judging.{answered_now, going_on}
 use Rattle.gm_turns.specs.Ready.{IsReady, Turned}
 use Rattle.gm_turns.specs.Room.{HasCallRoom, orders_of}
-use Rattle.gm_turns.specs.Standing.{memory_of}
 use Rattle.gm_turns.specs.declared.parts.Core.{Core}
 use Rattle.gm_vcpus.proofs.Stays as vcpus
 use Rattle.gm_words.specs.Banks.{word_in}
 
 -- what a call is judged by
-
-pub slots_apart : (k : Core) (c : ℕ) → IsReady k (Caller c) → SlotsStand (flat k.log.past)
-slots_apart k c r = slots_now (orders_of k) k.log.past (right (orders_of k) k.log.past r.settled.ruled)
-
-pub lent_stands : (k : Core) (c : ℕ) (p : Parts) → IsReady k (Caller c) → IsLent p k.state → LentStand p (flat k.log.past)
-lent_stands k c p r e = lent k.setup k.state (memory_of k.setup k.log.past) p e (slots_apart k c r) r.settled.stands.state.is
 
 -- what is lent is the core's
 pub record IsLentBy (k : Core) (p : Parts) : Type 0 where
@@ -68,7 +59,7 @@ pub record IsLentBy (k : Core) (p : Parts) : Type 0 where
 pub told : (k : Core) (c : ℕ) (p : Parts) (i : Ioctl) (j : Judged) (spans : List Extent) → IsReady k (Caller c) → IsLentBy k p → ((f : Flat) → LentStand p f → Tells p.user.now (plan p.setup i f) j spans) → Tells k.state.user (plan k.setup i (flat k.log.past)) j spans
 told k c p i j spans r l h =
     subst (λ (u : List (List ℕ)). Tells u (plan k.setup i (flat k.log.past)) j spans) l.user
-    (subst (λ (s : Setup). Tells p.user.now (plan s i (flat k.log.past)) j spans) l.setup (h (flat k.log.past) (lent_stands k c p r l.state)))
+    (subst (λ (s : Setup). Tells p.user.now (plan s i (flat k.log.past)) j spans) l.setup (h (flat k.log.past) (lent_stands k p r.settled l.state)))
 
 pub has_room : (k : Core) (c : ℕ) → IsReady k (Caller c) → (caller_at k.callers c).call ≡ None → HasCallRoom k c None
 has_room k c r none = subst (λ (o : Option InProgress). HasCallRoom k c o) none r.room.own

@@ -168,6 +168,13 @@ block_of_frames user first a b f h (Some m) e u w = record {
   right_backing = frame_back user first (place_in a.page) (h - (block_of a.page).lo) b m.backing e u;
 }
 
+-- the pages of the block are consecutive user pages, or frames
+abbrev AreUsers : ℕ → ℕ → Flat → Type 0
+AreUsers first page f = (k : ℕ) → k < BLOCK_PAGES → IsUserPage (first + k) (named f ((block_of page).lo + k))
+
+abbrev AreFrames : ℕ → ℕ → Flat → Type 0
+AreFrames first page f = (k : ℕ) → k < BLOCK_PAGES → IsFrame (first + k) (named f ((block_of page).lo + k))
+
 names_block : (huge : Bool) (user : ℕ) (a : Aim) (b : Backing) (f : Flat) (range : Option Extent) → CanBeSeen user f → Puts a b f → IsWholeBlock huge a.page f range → NamesLeaf user (new_leaf Block a b f) f
 names_block huge user a b f range c p w h cover =
     let own = in_block a.page in
@@ -176,13 +183,7 @@ names_block huge user a b f range c p w h cover =
     let written : (m : Named) → named f h ≡ Some m → m.writable ≡ may_be_written a.kind (slot_over f.slots a.page) = λ m n. alike_written huge user a b f range h j m c p w at.0 at.1 n in
     go own at written w.consecutive
   where
-    abbrev Users : ℕ → Type 0
-    Users first = (k : ℕ) → k < BLOCK_PAGES → IsUserPage (first + k) (named f ((block_of a.page).lo + k))
-
-    abbrev Frames : ℕ → Type 0
-    Frames first = (k : ℕ) → k < BLOCK_PAGES → IsFrame (first + k) (named f ((block_of a.page).lo + k))
-
-    go : ((block_of a.page).lo + place_in a.page ≡ a.page) × (place_in a.page < BLOCK_PAGES) → ((block_of a.page).lo + (h - (block_of a.page).lo) ≡ h) × (h - (block_of a.page).lo < BLOCK_PAGES) → ((m : Named) → named f h ≡ Some m → m.writable ≡ may_be_written a.kind (slot_over f.slots a.page)) → (first : ℕ) × (first % BLOCK_PAGES ≡ 0) × (Users first ⊎ Frames first) → GivesAs user (new_leaf Block a b f) h (named f h)
+    go : ((block_of a.page).lo + place_in a.page ≡ a.page) × (place_in a.page < BLOCK_PAGES) → ((block_of a.page).lo + (h - (block_of a.page).lo) ≡ h) × (h - (block_of a.page).lo < BLOCK_PAGES) → ((m : Named) → named f h ≡ Some m → m.writable ≡ may_be_written a.kind (slot_over f.slots a.page)) → (first : ℕ) × (first % BLOCK_PAGES ≡ 0) × (AreUsers first a.page f ⊎ AreFrames first a.page f) → GivesAs user (new_leaf Block a b f) h (named f h)
     go own at written (first, al, inl users) =
         block_of_users user first a b f h (named f h) c p al
         (sym p.backing_is ∙ user_at (first + place_in a.page) (named f a.page) p.gives p.named_is (subst (λ (x : ℕ). IsUserPage (first + place_in a.page) (named f x)) own.0 (users (place_in a.page) own.1)))
@@ -211,6 +212,6 @@ frame_number frame (InFolio folio) h = h
 pub lie_alike : (huge : Bool) (a : Aim) (b : Backing) (f : Flat) (range : Option Extent) → Puts a b f → IsWholeBlock huge a.page f range → LieAlike a.page b
 lie_alike huge a b f range p w = go (in_block a.page) w.consecutive
   where
-    go : ((block_of a.page).lo + place_in a.page ≡ a.page) × (place_in a.page < BLOCK_PAGES) → (first : ℕ) × (first % BLOCK_PAGES ≡ 0) × (((k : ℕ) → k < BLOCK_PAGES → IsUserPage (first + k) (named f ((block_of a.page).lo + k))) ⊎ ((k : ℕ) → k < BLOCK_PAGES → IsFrame (first + k) (named f ((block_of a.page).lo + k)))) → LieAlike a.page b
+    go : ((block_of a.page).lo + place_in a.page ≡ a.page) × (place_in a.page < BLOCK_PAGES) → (first : ℕ) × (first % BLOCK_PAGES ≡ 0) × (AreUsers first a.page f ⊎ AreFrames first a.page f) → LieAlike a.page b
     go own (first, al, inl users) = number_alike a.page first b al (ap number_of (sym p.backing_is ∙ user_at (first + place_in a.page) (named f a.page) p.gives p.named_is (subst (λ (x : ℕ). IsUserPage (first + place_in a.page) (named f x)) own.0 (users (place_in a.page) own.1))))
     go own (first, al, inr frames) = number_alike a.page first b al (frame_number (first + place_in a.page) b (subst (HasFrame (first + place_in a.page)) p.backing_is (frame_of_some (first + place_in a.page) (named f a.page) p.gives p.named_is (subst (λ (x : ℕ). IsFrame (first + place_in a.page) (named f x)) own.0 (frames (place_in a.page) own.1)))))

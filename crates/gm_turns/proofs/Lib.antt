@@ -1,6 +1,7 @@
 pub mod ActorTurns
 pub mod BeginTurns
 pub mod BracketTurns
+pub mod Blocking
 pub mod CallTurns
 pub mod ChangeNeeds
 pub mod ChangeTurns
@@ -13,6 +14,7 @@ pub mod FilePages
 pub mod Freed
 pub mod Freeing
 pub mod Gets
+pub mod Growing
 pub mod GuestTouches
 pub mod GuestTurns
 pub mod HeldFrames
@@ -20,6 +22,7 @@ pub mod Installing
 pub mod JudgeTurns
 pub mod LeafNames
 pub mod Letting
+pub mod Longer
 pub mod NewFolios
 pub mod NewPages
 pub mod OneTurn

@@ -252,7 +252,7 @@ command_of k c = slice_get (slice_index_or k.caller_commands.items c []) (caller
 next_of : (k : Core) (c : ℕ) → Settled k → c < k.setup.callers → next_command (orders_of k) (Caller c) k.log.past ≡ command_of k c
 next_of k c t lt = next_is (orders_of k) c t.stands.callers lt ∙ command_got (slice_index_or k.caller_commands.items c []) (caller_at k.callers c).ended
 
-bind_made : (x : Option FileView) → IsSome x → HasRoom 0 1 x → 1 ≤ bind_room x
+pub bind_made : (x : Option FileView) → IsSome x → HasRoom 0 1 x → 1 ≤ bind_room x
 bind_made None s h = absurd (cc)
 bind_made (Some x) s h = h.1
 

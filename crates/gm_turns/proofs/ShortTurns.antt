@@ -31,7 +31,8 @@ use Rattle.gm_state.specs.Views.{StateView}
 use Rattle.gm_store.proofs.SlotEffects.{is_there}
 use Rattle.gm_store.specs.Stored.{applied as stored_after}
 use Rattle.gm_store.specs.Views.{file_in}
-use Rattle.gm_turns.proofs.JudgeTurns.{has_room, slots_apart, still_idle, taken, taken_stand}
+use Rattle.gm_turns.proofs.Blocking.{slots_apart}
+use Rattle.gm_turns.proofs.JudgeTurns.{has_room, still_idle, taken, taken_stand}
 use Rattle.gm_turns.proofs.OneTurn.{three_entries}
 use Rattle.gm_turns.proofs.StateQuiet as state
 use Rattle.gm_turns.specs.Judging.{changed_now}
@@ -51,7 +52,7 @@ pub can_change : (k : Core) (c : â„•) (i : Ioctl) (effect : Effect) (answer : â„
 can_change k c i effect answer r e = record {
   is = (state.quiet (by (k.turns + 1) (Caller c) (Judge i)) k.log.past refl r.settled.stands.state).is;
   makes = makes_it k i effect answer e;
-  apart = slots_apart k c r;
+  apart = slots_apart k r.settled;
   small = r.settled.limits.user;
 }
 

@@ -5,6 +5,7 @@ pub mod Judging
 pub mod Logs
 pub mod Needs
 pub mod Populating
+pub mod Pushing
 pub mod Ready
 pub mod Room
 pub mod Runs

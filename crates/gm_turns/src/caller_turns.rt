@@ -33,7 +33,7 @@ pub fn caller_turn(core: &mut Core, c: u32) -> Outcome
 }
 
 /// The step that follows of the caller's call in progress.
-fn next_step(core: &Core, c: u32) -> Option<Step>
+pub fn next_step(core: &Core, c: u32) -> Option<Step>
     requires settled { Settled core.now }
     requires actor { c < core.now.setup.callers }
     ensures { MatchOption result ((caller_at core.now.callers c).call ≡ None) (IsStepOf (caller_at core.now.callers c).call) }
@@ -45,7 +45,7 @@ fn next_step(core: &Core, c: u32) -> Option<Step>
 }
 
 /// The caller's first call that isn't ended.
-fn next_ioctl(core: &Core, c: u32) -> Option<Ioctl>
+pub fn next_ioctl(core: &Core, c: u32) -> Option<Ioctl>
     requires settled { Settled core.now }
     requires actor { c < core.now.setup.callers }
     ensures { MatchOption result (next_command (orders_of core.now) (Caller c) core.now.log.past ≡ None) (λ ioctl. next_command (orders_of core.now) (Caller c) core.now.log.past ≡ Some (CallCommand ioctl)) }

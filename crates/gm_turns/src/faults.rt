@@ -222,7 +222,8 @@ fn install(core: &mut Core, v: u32, access: Access, backing: Backing)
     let (page, kind) = (access.page(), access.kind());
     let level = core.state.level(core.setup.huge, page, core.mmu.hull());
     let writable = is_writable(kind, core.state.find(page));
-    core.mmu.install(leaf_of(level, page, kind, backing, writable));
+    core.mmu
+        .install(leaf_of(level, page, kind, backing, writable));
     core.state.release(backing);
     core.vcpus.settle(v);
     note(core, Actor::Vcpu(v), What::Install { page, level });

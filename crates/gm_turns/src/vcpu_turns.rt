@@ -32,7 +32,7 @@ pub fn vcpu_turn(core: &mut Core, v: u32) -> Outcome
 }
 
 /// The vCPU's first access that isn't ended.
-fn next_access(core: &Core, v: u32) -> Option<Access>
+pub fn next_access(core: &Core, v: u32) -> Option<Access>
     requires settled { Settled core.now }
     requires actor { v < core.now.setup.vcpus }
     ensures { MatchOption result (next_command (orders_of core.now) (Vcpu v) core.now.log.past ≡ None) (λ access. next_command (orders_of core.now) (Vcpu v) core.now.log.past ≡ Some (TouchCommand access)) }

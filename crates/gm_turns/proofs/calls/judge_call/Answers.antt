@@ -8,7 +8,8 @@ use Rattle.gm_flat.specs.Replay.{flat}
 use Rattle.gm_flat.specs.declared.entry.What.TheVariants.{Judge}
 use Rattle.gm_laws.proofs.Kit.{by}
 use Rattle.gm_state.proofs.PlannedReads.{short_uncut}
-use Rattle.gm_turns.proofs.JudgeTurns.{go_turn, lent_stands, may_judge, refuse_turn, same_turn, taken_ended, told}
+use Rattle.gm_turns.proofs.Blocking.{lent_stands}
+use Rattle.gm_turns.proofs.JudgeTurns.{go_turn, may_judge, refuse_turn, same_turn, taken_ended, told}
 use Rattle.gm_turns.proofs.ShortTurns.{can_change, change_turn, makes_it, short_room}
 use Rattle.gm_turns.specs.Ready.{Turned}
 use Rattle.gm_turns.specs.Standing.{memory_of}
@@ -16,7 +17,7 @@ use Rattle.gm_turns.specs.declared.parts.Core.{Core}
 use Rattle.gm_turns.proofs.calls.judge_call.Goals as goal
 
 pub judge-judged-requires-clause-state : goal.judge-judged-requires-clause-state
-judge-judged-requires-clause-state c = (flat c.args.core.now.log.past, lent_stands c.args.core.now c.args.c c.parts.result c.requires.ready (record { slots = c.parts.ensures.slots; files = c.parts.ensures.files; attrs = c.parts.ensures.attrs }))
+judge-judged-requires-clause-state c = (flat c.args.core.now.log.past, lent_stands c.args.core.now c.parts.result c.requires.ready.settled (record { slots = c.parts.ensures.slots; files = c.parts.ensures.files; attrs = c.parts.ensures.attrs }))
 
 pub answer_now-requires-clause-bound : goal.answer_now-requires-clause-bound
 answer_now-requires-clause-bound c = rw c.take_spans-spans.ensures.callers (taken_ended c.args.core.now c.args.c c.requires.ready)

@@ -13,9 +13,10 @@ use Rattle.gm_store.specs.Views.{StoreView}
 pub returns-in-Shared-default : goal.returns-in-Shared-default
 returns-in-Shared-default c = λ s m st u.
     let slot = c.args.slot in
-    let v = subst (λ (k : Kind). LiesUnder slot k c.args.first m.stored.flat) c.in-Shared-default.is-0 u in
-    (λ yes. shared_block slot c.args.first m.stored.flat v c.requires.aligned c.requires.from (eqb-true (slot.user % 512) (slot.base % 512) yes),
-    λ w. eq-eqb (slot.user % 512) (slot.base % 512) (shared_back slot c.args.first m.stored.flat v c.requires.aligned c.requires.from w))
+    let v = subst (λ (k : Kind). LiesUnder slot k c.args.first m.stored.flat) c.in-Shared-default.is-0 u in (
+      λ yes. shared_block slot c.args.first m.stored.flat v c.requires.aligned c.requires.from (eqb-true (slot.user % 512) (slot.base % 512) yes),
+      λ w. eq-eqb (slot.user % 512) (slot.base % 512) (shared_back slot c.args.first m.stored.flat v c.requires.aligned c.requires.from w),
+    )
 
 pub returns-in-Private-Some : goal.returns-in-Private-Some
 returns-in-Private-Some c = λ s m st u.
