@@ -183,9 +183,7 @@ fn histories_are_brought_up(rt: HostRuntime) -> Result<(), Fail> {
         (OLD_TOUCH, &[], 9, &[], Status::WriteFault, b"bad line="),
     ];
     for (bytes, reads, capacity, writes, status, held) in rows {
-        let mut source = MemorySource::new(alloc, bytes, reads)
-            .ok()
-            .ok_or("memory")?;
+        let mut source = MemorySource::new(alloc, bytes, reads).ok().ok_or("memory")?;
         let mut sink = MemorySink::new(alloc, capacity, writes)
             .ok()
             .ok_or("memory")?;
