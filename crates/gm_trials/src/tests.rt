@@ -17,13 +17,13 @@ fn answers_cross_threads() {
 }
 
 /// The machine of a script.
-fn machine_of(alloc: Global, text: &[u8]) -> Result<Machine, Fail> {
+pub fn machine_of(alloc: Global, text: &[u8]) -> Result<Machine, Fail> {
     let script = read_script(alloc, text).ok().ok_or("a script")?;
     Ok(Machine::new(alloc, &script).ok().ok_or("memory")?)
 }
 
 /// Whether the actor is one of the setup's.
-fn is_known(machine: &Machine, actor: Actor) -> bool
+pub fn is_known(machine: &Machine, actor: Actor) -> bool
     ensures { IsTrue result → IsOf machine.now.orders.setup actor }
 {
     let setup = machine.setup();
@@ -34,7 +34,7 @@ fn is_known(machine: &Machine, actor: Actor) -> bool
 }
 
 /// Takes a turn of the actor in room made for it, and answers what it came to and how many entries there are.
-fn turn(machine: &mut Machine, actor: Actor) -> Result<(Outcome, usize), Fail> {
+pub fn turn(machine: &mut Machine, actor: Actor) -> Result<(Outcome, usize), Fail> {
     if !is_known(machine, actor) || machine.turns() > 99 {
         return Err("an actor of the setup".into());
     }
