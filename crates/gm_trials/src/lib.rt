@@ -2,6 +2,4 @@
 #![tactic(auto)]
 
 #[cfg(test)]
-mod telling;
-#[cfg(test)]
 mod tests;
