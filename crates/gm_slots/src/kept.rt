@@ -72,16 +72,8 @@ impl KeptSlots {
         if count == 0 {
             return None;
         }
-        match self.by_id(self.order[count - 1].id) {
-            None => None,
-            Some(slot) => {
-                if is_over(&slot, page) {
-                    Some(slot)
-                } else {
-                    None
-                }
-            }
-        }
+        let slot = self.by_id(self.order[count - 1].id)?;
+        is_over(&slot, page).then_some(slot)
     }
 
     /// Whether so many pages from a base on meet a slot with another id. Of those that begin before the end the last one
