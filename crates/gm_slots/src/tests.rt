@@ -99,7 +99,9 @@ fn a_marked_slot_moves(rt: HostRuntime) -> Result<(), Fail> {
 }
 
 // The first page of a slot. They don't rise with the ids, and a page is free behind each.
-fn base_of(id: u32) -> u32 {
+fn base_of(id: u32) -> u32
+    ensures { result < 8192 }
+{
     (id ^ 2730) % SLOT_IDS * 2
 }
 
