@@ -24,7 +24,7 @@ or_false : (a b : Bool) → a ≡ false → b ≡ false → (a || b) ≡ false
 or_false a b e f = ap (λ (x : Bool). x || b) e ∙ f
 
 -- a search by id that fails, past the first
-absent_here : (s : SlotView) (slots : List SlotView) (id : ℕ) → slot_by_id (s ∷ slots) id ≡ None → (eqb s.id id ≡ false) × (slot_by_id slots id ≡ None)
+pub absent_here : (s : SlotView) (slots : List SlotView) (id : ℕ) → slot_by_id (s ∷ slots) id ≡ None → (eqb s.id id ≡ false) × (slot_by_id slots id ≡ None)
 absent_here s slots id none = by_test (eqb s.id id) refl
   where
     by_test : (b : Bool) → eqb s.id id ≡ b → (eqb s.id id ≡ false) × (slot_by_id slots id ≡ None)

@@ -1,4 +1,7 @@
-pub mod Lists
-pub mod Goods
+pub mod ById
 pub mod Finding
+pub mod Goods
 pub mod Judging
+pub mod Keeping
+pub mod Meeting
+pub mod Orders

@@ -1,5 +1,5 @@
 -- What a call on a slot does to the slots.
-use Rattle.std.specs.Prelude.{◌≡◌, ℕ, ◌<◌, List, ◌∷◌, Bool, true, false, ◌||◌, nat_eq, None, Some, Ok, Err, if◌then◌else◌}
+use Rattle.std.specs.Prelude.{◌≡◌, ℕ, ◌<◌, List, ◌∷◌, true, false, ◌||◌, nat_eq, None, Some, Ok, Err, if◌then◌else◌}
 use Rattle.std.specs.declared.option.Option.{Option}
 use Rattle.std.specs.declared.result.Result.{Result}
 use Rattle.gm_base.specs.declared.calls.Region.{Region}

@@ -1,2 +1,4 @@
 pub mod Changes
 pub mod Good
+pub mod Kept
+pub mod Order

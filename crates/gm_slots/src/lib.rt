@@ -1,9 +1,11 @@
 //! Slots of guest pages.
 #![tactic(auto)]
 
+mod ages;
 mod change;
-mod list;
+mod kept;
 mod order;
+mod pages;
 mod slots;
 
 pub use change::Change;

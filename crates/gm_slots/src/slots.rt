@@ -1,21 +1,18 @@
 //! The slots.
 
-ghost use Rattle.std.specs.Prelude.{◌≡◌, ℕ, ◌+◌, ◌<◌, ◌≤◌, ◌∷◌, [], Ok, None, IfOk, IsSome, true, false, length, vec_capacity};
-ghost use Rattle.gm_base.specs.declared.numbers.TheConstants.{SLOT_IDS};
+ghost use Rattle.std.specs.Prelude.{◌≡◌, ◌+◌, ◌<◌, [], Ok, None, IfOk, IsSome};
+ghost use Rattle.gm_base.specs.declared.numbers.TheConstants.{PAGE_LIMIT};
 ghost use Rattle.gm_flat.specs.Slots.{slot_by_id, slot_over};
 ghost use Rattle.gm_flat.specs.RightLook.{is_marked};
 ghost use Rattle.gm_flat.specs.FlatState.{has_flag};
 ghost use Rattle.gm_flat.specs.Calls.{page_of, differs, meets_slot, same_truth};
 ghost use Rattle.gm_flat.specs.Effects.{dropped, marked, shut_slots};
 ghost use Rattle.gm_slots.specs.Changes.{SlotList, Passed, change_of, new_change, old_change, made_slot, slots_after, rise_by};
-ghost use Rattle.gm_slots.specs.Good.{Good, ByBase};
 
 use crate::change::Change;
-use crate::list::{drop_id, find_id, mark_id, meets_other, move_id, shut_file};
-use crate::order::{find_page, renew};
+use crate::kept::KeptSlots;
 use gm_base::{
-    COUNTER_LIMIT, Errno, KVM_MEM_GUEST_MEMFD, KVM_MEM_READONLY, NoMemory, PAGE_BYTES, Page,
-    Region, SLOT_IDS,
+    COUNTER_LIMIT, Errno, KVM_MEM_GUEST_MEMFD, KVM_MEM_READONLY, NoMemory, PAGE_BYTES, Page, Region,
 };
 use gm_flat::SlotView;
 use std::alloc::Global;
@@ -24,24 +21,16 @@ use std::marker::Model;
 /// The slots, and how often they changed. No two have one id or one page.
 #[derive(Debug, Drop)]
 pub struct Slots {
-    // The one added last first.
-    list: Vec<SlotView>,
-    // The same by rising base.
-    order: Vec<SlotView>,
+    kept: KeptSlots,
     changes: u64,
 }
 
 impl Model for Slots {
-    ghost use Rattle.std.specs.Prelude.{◌≤◌, vec_capacity};
-    ghost use Rattle.gm_base.specs.declared.numbers.TheConstants.{SLOT_IDS};
     ghost use Rattle.gm_slots.specs.Changes.{SlotList};
-    ghost use Rattle.gm_slots.specs.Good.{Good, ByBase};
 
     ghost Value = { SlotList };
 
-    ghost view = { λ s. record { slots = s.list.items; generation = s.changes } };
-
-    ghost invariant = { λ s. Good s.list.items × ByBase s.list.items s.order.items × (SLOT_IDS ≤ vec_capacity s.list) × (SLOT_IDS ≤ vec_capacity s.order) };
+    ghost view = { λ s. record { slots = s.kept; generation = s.changes } };
 }
 
 impl Slots {
@@ -49,13 +38,8 @@ impl Slots {
     pub fn new(alloc: Global) -> Result<Slots, NoMemory>
         ensures { IfOk result (λ slots. slots ≡ record { slots = []; generation = 0 }) }
     {
-        let list = Vec::with_capacity(alloc, SLOT_IDS as usize)?;
-        let order = Vec::with_capacity(alloc, SLOT_IDS as usize)?;
-        Ok(Slots {
-            list,
-            order,
-            changes: 0,
-        })
+        let kept = KeptSlots::new(alloc)?;
+        Ok(Slots { kept, changes: 0 })
     }
 
     /// What a call that passes the rows that look at no state does to the slots, or its refusal: Inval for a slot that
@@ -64,7 +48,7 @@ impl Slots {
         requires { Passed region.now }
         ensures { result ≡ change_of region.now self.now.slots }
     {
-        match find_id(&self.list, region.slot) {
+        match self.kept.by_id(region.slot) {
             None => self.judge_new(region),
             Some(slot) => self.judge_old(region, &slot),
         }
@@ -111,12 +95,8 @@ impl Slots {
         requires some { 0 < region.now.size }
         ensures { result ≡ meets_slot (page_of region.now.gpa) (page_of region.now.size) (dropped region.now.slot self.now.slots) }
     {
-        meets_other(
-            &self.list,
-            region.gpa / PAGE_BYTES,
-            region.size / PAGE_BYTES,
-            region.slot,
-        )
+        self.kept
+            .meets_other(pages_of(region.gpa), pages_of(region.size), region.slot)
     }
 
     /// Marks a slot, since it is to go or to move. It takes no memory. The generation rises by one.
@@ -126,8 +106,7 @@ impl Slots {
         ensures slots { self.new.slots ≡ marked slot self.old.slots }
         ensures generation { self.new.generation ≡ self.old.generation + 1 }
     {
-        mark_id(&mut self.list, slot);
-        renew(&mut self.order, &self.list);
+        self.kept.mark_id(slot);
         self.changes += 1;
     }
 
@@ -140,8 +119,7 @@ impl Slots {
         ensures slots { self.new.slots ≡ slots_after change region.now self.old.slots }
         ensures generation { self.new.generation ≡ self.old.generation + rise_by change }
     {
-        change_list(&mut self.list, region, change);
-        renew(&mut self.order, &self.list);
+        change_kept(&mut self.kept, region, change);
         self.changes += change.rise();
     }
 
@@ -150,22 +128,21 @@ impl Slots {
         ensures slots { self.new.slots ≡ shut_slots file self.old.slots }
         ensures generation { self.new.generation ≡ self.old.generation }
     {
-        shut_file(&mut self.list, file);
-        renew(&mut self.order, &self.list);
+        self.kept.shut(file);
     }
 
     /// The slot over a page, with its mark. None exactly where no slot lies over it.
     pub fn find(&self, page: Page) -> Option<SlotView>
         ensures { result ≡ slot_over self.now.slots page }
     {
-        find_page(&self.order, page.number())
+        self.kept.over(page.number())
     }
 
     /// The slot with an id, with its mark. None exactly where it doesn't exist.
     pub fn by_id(&self, id: u32) -> Option<SlotView>
         ensures { result ≡ slot_by_id self.now.slots id }
     {
-        find_id(&self.list, id)
+        self.kept.by_id(id)
     }
 
     /// How often the slots changed.
@@ -177,21 +154,25 @@ impl Slots {
 }
 
 /// Makes the change that was judged for a call.
-fn change_list(list: &mut Vec<SlotView>, region: &Region, change: Change)
-    requires good { Good list.old.items }
-    requires room { SLOT_IDS ≤ vec_capacity list.old }
+fn change_kept(slots: &mut KeptSlots, region: &Region, change: Change)
     requires passed { Passed region.now }
-    requires judged { change_of region.now list.old.items ≡ Ok change }
-    ensures slots { list.new.items ≡ slots_after change region.now list.old.items }
-    ensures good { Good list.new.items }
-    ensures capacity { vec_capacity list.old ≤ vec_capacity list.new }
+    requires judged { change_of region.now slots.old ≡ Ok change }
+    ensures { slots.new ≡ slots_after change region.now slots.old }
 {
     match change {
         Change::Nothing => {}
-        Change::Make => put_first(list, slot_of(region)),
-        Change::Delete => drop_id(list, region.slot),
-        Change::Move => move_id(list, region.slot, region.gpa / PAGE_BYTES),
+        Change::Make => slots.put(slot_of(region)),
+        Change::Delete => slots.drop_id(region.slot),
+        Change::Move => slots.move_id(region.slot, region.gpa / PAGE_BYTES),
     }
+}
+
+/// So many bytes in pages.
+fn pages_of(bytes: u64) -> u64
+    ensures pages { result ≡ page_of bytes }
+    ensures limit { result < PAGE_LIMIT }
+{
+    bytes / PAGE_BYTES
 }
 
 /// Whether the flags ask for a guest_memfd.
@@ -246,17 +227,5 @@ fn slot_of(region: &Region) -> SlotView
         }
     } else {
         plain
-    }
-}
-
-/// Puts a slot before the others. There is room for it.
-fn put_first(list: &mut Vec<SlotView>, slot: SlotView)
-    requires { length list.old.items < vec_capacity list.old }
-    ensures slots { list.new.items ≡ slot ∷ list.old.items }
-    ensures capacity { vec_capacity list.old ≤ vec_capacity list.new }
-{
-    match list.insert(0, slot) {
-        Ok(()) => {}
-        Err(_) => unreachable!(),
     }
 }
