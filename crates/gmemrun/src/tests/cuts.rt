@@ -46,12 +46,18 @@ fn each_is_refused(
     Ok(())
 }
 
-// The lines of the script: how many bytes have one of the line, how many have it whole, the refusal of a cut before that,
+// The lines of the script: how many bytes have its first one, how many have it whole, the refusal of a cut before that,
 // and the text after the whole line.
 #[test]
 fn a_script_stops_after_each_byte(rt: HostRuntime) -> Result<(), Fail> {
     let alloc = rt.alloc();
-    stops(&rt, alloc, 0, Status::BadScript, b"bad line=1 cause=machine\n")?;
+    stops(
+        &rt,
+        alloc,
+        0,
+        Status::BadScript,
+        b"bad line=1 cause=machine\n",
+    )?;
     let lines: [(usize, usize, &[u8], &[u8]); 5] = [
         (1, 51, b"bad line=1 cause=cut\n", NO_TURNS_TEXT),
         (52, 79, b"bad line=2 cause=cut\n", NO_TURNS_TEXT),

@@ -44,8 +44,8 @@ fn faults_and_ends(rt: HostRuntime) -> Result<(), Fail> {
     Ok(())
 }
 
-// A script that is bad in its first line: the calls of the source and of the sink that fail, the bytes that the sink may
-// hold, the status and what the sink holds then. The source is asked twice, and the sink as often as it has to be.
+// A script that is bad in its first line: the calls of the source and of the sink that fail, the bytes that the sink
+// may hold, the status and what the sink holds then. The source is asked twice, and the sink as often as it has to be.
 #[test]
 fn a_bad_line_is_told_after_the_end(rt: HostRuntime) -> Result<(), Fail> {
     let alloc = rt.alloc();
@@ -116,12 +116,7 @@ fn ran_over(
 }
 
 // Each of the source's first calls fails once.
-fn each_read_fails(
-    rt: &impl Abort,
-    alloc: Global,
-    pieces: Pieces,
-    calls: u64,
-) -> Result<(), Fail> {
+fn each_read_fails(rt: &impl Abort, alloc: Global, pieces: Pieces, calls: u64) -> Result<(), Fail> {
     for call in 0..calls {
         let (status, held) = ran_over(alloc, pieces, &[call], &[])?;
         assert_eq!(rt; status, Status::ReadFault, "read {call}");
@@ -139,7 +134,9 @@ fn each_write_fails(
 ) -> Result<(), Fail> {
     for call in 0..calls {
         let (status, held) = ran_over(alloc, pieces, &[], &[call])?;
-        let front = ONE_READ_TEXT.get(..call as usize).ok_or("a front of the text")?;
+        let front = ONE_READ_TEXT
+            .get(..call as usize)
+            .ok_or("a front of the text")?;
         assert_eq!(rt; status, Status::WriteFault, "write {call}");
         assert_eq!(rt; held.as_slice(), front, "write {call}");
     }

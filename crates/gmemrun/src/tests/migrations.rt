@@ -11,8 +11,8 @@ const OLD_TOUCH: &[u8] =
 const BROUGHT_UP: &[u8] =
     b"gmem-history 2\nmachine frames=4 user=4 vcpus=1 callers=1 huge=off\n1 v0 get serial=0 frame=3 fresh=1\n2 v0 touch read private 0 serial=0 frame=3 level=4k value=0 fill=1\nend turns=2 entries=2\n";
 
-// A history of version 1: the calls of the source and of the sink that fail, the bytes that the sink may hold, the status
-// and what the sink holds then.
+// A history of version 1: the calls of the source and of the sink that fail, the bytes that the sink may hold, the
+// status and what the sink holds then.
 #[test]
 fn histories_are_brought_up(rt: HostRuntime) -> Result<(), Fail> {
     let alloc = rt.alloc();
