@@ -60,7 +60,8 @@ fn has_slot(rt: &impl Abort, machine: &Machine, slot: Option<SlotView>) {
     assert_eq!(rt; machine.slot(third), None);
 }
 
-// Whether the file is in use, and what is cached of its second page. Nothing is of the first, and there is no other file.
+// Whether the file is in use, and what is cached of its second page. Nothing is of the first, and no other file is
+// there.
 fn has_file(rt: &impl Abort, machine: &Machine, used: bool, cached: Option<Folio>) {
     assert_eq!(rt; machine.file_in_use(0), used);
     assert_eq!(rt; machine.cached(0, 1), cached);
