@@ -2,4 +2,12 @@
 #![tactic(auto)]
 
 #[cfg(test)]
+mod acting;
+#[cfg(test)]
+mod memory;
+#[cfg(test)]
+mod pushing;
+#[cfg(test)]
 mod tests;
+#[cfg(test)]
+mod waiting;
