@@ -1,6 +1,6 @@
 //! Lists of folios that a cut fills.
 
-ghost use Rattle.std.specs.Prelude.{◌≡◌, ◌+◌, ◌<◌, ◌≤◌, ◌++◌, [], length, slice_set, take, IfOk, OnOk};
+ghost use Rattle.std.specs.Prelude.{◌≡◌, ◌+◌, ◌<◌, ◌≤◌, ◌++◌, [], length, slice_set, take, IfOk, OnOk, IsOk, OnErr};
 ghost use Rattle.gm_radix.specs.Entries.{within, without};
 
 use gm_base::{Folio, NoMemory};
@@ -40,6 +40,8 @@ impl Folios {
         ensures same { self.new ≡ record self.old { room = self.new.room } }
         ensures room { OnOk result (room ≤ self.new.room) }
         ensures not_less { self.old.room ≤ self.new.room }
+        ensures enough { room ≤ self.old.room → IsOk result }
+        ensures err { OnErr result (self.new ≡ self.old) }
     {
         if self.room < room {
             self.items.reserve(room as usize - self.items.len())?;

@@ -34,6 +34,7 @@ mod split;
 pub use error::{Cause, ScriptError};
 pub use gm_base::{Command, Turn};
 pub use lists::CommandList;
+pub use numbers::read_number;
 pub use script::{Script, read_script};
 
 #[cfg(test)]

@@ -20,7 +20,7 @@ use std::marker::Model;
 
 /// Slots, the one added last first. No two have one id or one page.
 #[derive(Debug, Drop)]
-pub(crate) struct KeptSlots {
+pub struct KeptSlots {
     // At the place of each id the slot that has it.
     table: Vec<Option<SlotView>>,
     // The ids of the slots, the one added last last.
@@ -44,7 +44,7 @@ impl Model for KeptSlots {
 
 impl KeptSlots {
     /// No slot, with room for all of them.
-    pub(crate) fn new(alloc: Global) -> Result<KeptSlots, NoMemory>
+    pub fn new(alloc: Global) -> Result<KeptSlots, NoMemory>
         ensures { IfOk result (λ slots. slots ≡ []) }
     {
         let table = vec![in alloc; None; SLOT_IDS as usize]?;
@@ -54,7 +54,7 @@ impl KeptSlots {
     }
 
     /// The slot with an id, from its place.
-    pub(crate) fn by_id(&self, id: u32) -> Option<SlotView>
+    pub fn by_id(&self, id: u32) -> Option<SlotView>
         ensures { result ≡ slot_by_id self.now id }
     {
         if id < SLOT_IDS {
@@ -65,7 +65,7 @@ impl KeptSlots {
     }
 
     /// The slot over a page, by a search for the last that begins at the page or before it.
-    pub(crate) fn over(&self, page: u64) -> Option<SlotView>
+    pub fn over(&self, page: u64) -> Option<SlotView>
         ensures { result ≡ slot_over self.now page }
     {
         let count = count_begun(&self.order, page);
@@ -78,7 +78,7 @@ impl KeptSlots {
 
     /// Whether so many pages from a base on meet a slot with another id. Of those that begin before the end the last one
     /// decides.
-    pub(crate) fn meets_other(&self, base: u64, pages: u64, id: u32) -> bool
+    pub fn meets_other(&self, base: u64, pages: u64, id: u32) -> bool
         requires some { 0 < pages }
         requires limit { base + pages ≤ 2 ^ 64 }
         ensures { result ≡ meets_slot base pages (dropped id self.now) }
@@ -94,7 +94,7 @@ impl KeptSlots {
     }
 
     /// Puts a slot with a new id before the others, whose pages no other has. It takes no memory.
-    pub(crate) fn put(&mut self, slot: SlotView)
+    pub fn put(&mut self, slot: SlotView)
         requires absent { slot_by_id self.old slot.id ≡ None }
         requires id { slot.id < SLOT_IDS }
         requires pages { 0 < slot.pages }
@@ -111,7 +111,7 @@ impl KeptSlots {
     }
 
     /// Takes the slot with an id away, if there is one.
-    pub(crate) fn drop_id(&mut self, id: u32)
+    pub fn drop_id(&mut self, id: u32)
         ensures { self.new ≡ dropped id self.old }
     {
         if let Some(slot) = self.by_id(id) {
@@ -127,7 +127,7 @@ impl KeptSlots {
     }
 
     /// Marks the slot with an id, if there is one.
-    pub(crate) fn mark_id(&mut self, id: u32)
+    pub fn mark_id(&mut self, id: u32)
         ensures { self.new ≡ marked id self.old }
     {
         if let Some(slot) = self.by_id(id) {
@@ -136,7 +136,7 @@ impl KeptSlots {
     }
 
     /// Moves the slot with an id to a base where its pages meet no other slot. It isn't marked there.
-    pub(crate) fn move_id(&mut self, id: u32, base: u64)
+    pub fn move_id(&mut self, id: u32, base: u64)
         requires { (slot : SlotView) × (slot_by_id self.old id ≡ Some slot) × (meets_slot base slot.pages (dropped id self.old) ≡ false) }
         ensures { self.new ≡ moved id base self.old }
     {
@@ -152,7 +152,7 @@ impl KeptSlots {
     }
 
     /// Leaves the slots of a file without one.
-    pub(crate) fn shut(&mut self, file: u32)
+    pub fn shut(&mut self, file: u32)
         ensures { self.new ≡ shut_slots file self.old }
     {
         shut_each(&mut self.table, &self.order, file);

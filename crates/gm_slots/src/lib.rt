@@ -9,6 +9,7 @@ mod pages;
 mod slots;
 
 pub use change::Change;
+pub use kept::KeptSlots;
 pub use slots::Slots;
 
 #[cfg(test)]
