@@ -1,4 +1,4 @@
-// What the tests do with a machine. A test alone owns it, and hands it to these.
+// What is done with a machine that is lent.
 
 ghost use Rattle.gm_base.specs.Scripts.{IsOf};
 ghost use Rattle.std.specs.Prelude.{IsTrue};
@@ -9,6 +9,9 @@ use gm_script::read_script;
 use std::alloc::Global;
 use std::panic::Expect;
 use std::process::Abort;
+
+/// A script without a command.
+pub const NO_COMMAND: &[u8] = b"machine frames=4 user=4 vcpus=1 callers=1 huge=off\n";
 
 /// The machine of a script.
 pub fn machine_of(alloc: Global, text: &[u8]) -> Option<Machine> {
