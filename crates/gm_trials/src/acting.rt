@@ -13,7 +13,7 @@ use std::process::Abort;
 /// A script without a command.
 pub const NO_COMMAND: &[u8] = b"machine frames=4 user=4 vcpus=1 callers=1 huge=off\n";
 
-/// The machine of a script.
+/// The machine of a script. None where it is no script, or memory ran out.
 pub fn machine_of(alloc: Global, text: &[u8]) -> Option<Machine> {
     let script = read_script(alloc, text).ok()?;
     Machine::new(alloc, &script).ok()

@@ -41,7 +41,8 @@ fn try_on(rt: &impl Abort, alloc: Global, machine: &mut Machine, trial: Trial) {
     }
 }
 
-// All tests let their machine go here: the proof of that goes through all that a machine has, wherever it is let go.
+// The one function that owns a machine, with one way out. The proof of each way out of such a function goes through all
+// that a machine has.
 fn tried(rt: &impl Abort, alloc: Global, trial: Trial) {
     let mut machine = machine_of(alloc, script_of(trial)).expect(rt, "a machine");
     try_on(rt, alloc, &mut machine, trial);
