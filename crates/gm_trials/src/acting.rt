@@ -1,4 +1,4 @@
-// What the tests do with a machine. A test alone owns it, and hands it to these.
+// What is done with a machine that is lent.
 
 ghost use Rattle.gm_base.specs.Scripts.{IsOf};
 ghost use Rattle.std.specs.Prelude.{IsTrue};
@@ -10,7 +10,10 @@ use std::alloc::Global;
 use std::panic::Expect;
 use std::process::Abort;
 
-/// The machine of a script.
+/// A script without a command.
+pub const NO_COMMAND: &[u8] = b"machine frames=4 user=4 vcpus=1 callers=1 huge=off\n";
+
+/// The machine of a script. None where it is no script, or memory ran out.
 pub fn machine_of(alloc: Global, text: &[u8]) -> Option<Machine> {
     let script = read_script(alloc, text).ok()?;
     Machine::new(alloc, &script).ok()

@@ -8,6 +8,8 @@ mod memory;
 #[cfg(test)]
 mod pushing;
 #[cfg(test)]
+mod rooming;
+#[cfg(test)]
 mod tests;
 #[cfg(test)]
 mod waiting;

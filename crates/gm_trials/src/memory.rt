@@ -1,12 +1,12 @@
-use crate::acting::{machine_of, turns};
+use crate::acting::turns;
 use gm_base::{Actor, Folio, Page};
 use gm_flat::SlotView;
 use gm_machine::Machine;
 use std::panic::Expect;
 use std::process::Abort;
-use std::test::Fail;
 
-const ONE_FILE: &[u8] = b"machine frames=4 user=4 vcpus=1 callers=1 huge=off
+/// A file of two pages and a slot over it, which both go.
+pub const ONE_FILE: &[u8] = b"machine frames=4 user=4 vcpus=1 callers=1 huge=off
 c0 create 8192 0
 c0 region 7 4 0 8192 0 0 0
 c0 allocate 0 4096 4096
@@ -69,9 +69,10 @@ fn has_file(rt: &impl Abort, machine: &Machine, used: bool, cached: Option<Folio
     assert!(rt; !machine.file_in_use(1));
 }
 
-// How many turns of the caller come next, the slot then, whether the file is in use, and what is cached of it: at the
-// start, after the file, the slot, the page and the end of the file, with the slot marked, and without it.
-fn one_file(rt: &impl Abort, machine: &mut Machine) {
+/// The calls of `ONE_FILE`: at the start, after the file, the slot, the page and the end of the file, with the slot
+/// marked, and without it. Of each: how many turns come before, the slot then, whether the file is in use, and what is
+/// cached of it.
+pub fn try_file(rt: &impl Abort, machine: &mut Machine) {
     let folio = Some(Folio {
         serial: 0,
         frame: 0,
@@ -89,11 +90,4 @@ fn one_file(rt: &impl Abort, machine: &mut Machine) {
         has_slot(rt, machine, slot);
         has_file(rt, machine, used, cached);
     }
-}
-
-#[test]
-fn slots_and_files(rt: HostRuntime) -> Result<(), Fail> {
-    let mut machine = machine_of(rt.alloc(), ONE_FILE).ok_or("a machine")?;
-    one_file(&rt, &mut machine);
-    Ok(())
 }

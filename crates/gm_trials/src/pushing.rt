@@ -1,4 +1,4 @@
-use crate::acting::{is_known, machine_of, turns};
+use crate::acting::{is_known, turns};
 use gm_base::{Access, Actor, Command, Ioctl, Kind, Op, Page, Region};
 use gm_io::SureSink;
 use gm_machine::Machine;
@@ -6,9 +6,6 @@ use gm_text::write_history;
 use std::alloc::Global;
 use std::panic::Expect;
 use std::process::Abort;
-use std::test::Fail;
-
-const NO_COMMAND: &[u8] = b"machine frames=4 user=4 vcpus=1 callers=1 huge=off\n";
 
 const ONE_READ_TEXT: &[u8] = b"gmem-history 2
 machine frames=4 user=4 vcpus=1 callers=1 huge=off
@@ -41,7 +38,9 @@ fn push_call(rt: &impl Abort, machine: &mut Machine, ioctl: Ioctl) {
     let actor = Actor::Caller(0);
     assert!(rt; is_known(machine, actor));
     assert!(rt; !machine.finished(actor));
-    machine.push(actor, Command::Call(ioctl)).expect(rt, "memory");
+    machine
+        .push(actor, Command::Call(ioctl))
+        .expect(rt, "memory");
 }
 
 // Gives the first vCPU an access.
@@ -88,15 +87,11 @@ fn push_both(rt: &impl Abort, machine: &mut Machine) {
     has_command(rt, machine, Actor::Vcpu(0), Command::Touch(access));
 }
 
-// The machine of a script without commands, which is given a call and a read, writes what that of a script with both
-// does.
-#[test]
-fn pushed_commands(rt: HostRuntime) -> Result<(), Fail> {
-    let mut machine = machine_of(rt.alloc(), NO_COMMAND).ok_or("a machine")?;
-    push_both(&rt, &mut machine);
-    turns(&rt, &mut machine, Actor::Caller(0), 1);
-    turns(&rt, &mut machine, Actor::Vcpu(0), 8);
-    let text = text_of(rt.alloc(), &machine).expect(&rt, "memory");
+/// The machine of `NO_COMMAND`, which is given a call and a read, writes what that of a script with both does.
+pub fn try_pushed(rt: &impl Abort, alloc: Global, machine: &mut Machine) {
+    push_both(rt, machine);
+    turns(rt, machine, Actor::Caller(0), 1);
+    turns(rt, machine, Actor::Vcpu(0), 8);
+    let text = text_of(alloc, machine).expect(rt, "memory");
     assert_eq!(rt; text.as_slice(), ONE_READ_TEXT);
-    Ok(())
 }

@@ -1,9 +1,8 @@
-use crate::acting::{is_known, kick, machine_of, turn, turns};
+use crate::acting::{is_known, kick, turn, turns};
 use gm_base::{Actor, Kind, Page};
 use gm_machine::{Blocker, Machine, Outcome};
 use std::panic::Expect;
 use std::process::Abort;
-use std::test::Fail;
 
 // What a machine tells of a caller: what its next turn would wait for, whether a call of it is in progress, and whether
 // all its calls are ended and it hasn't written `gone`.
@@ -66,11 +65,13 @@ fn moves(rt: &impl Abort, machine: &mut Machine, caller: u32, outcome: Outcome, 
     assert_eq!(rt; machine.history().len(), entries);
 }
 
-const TWO_CALLERS: &[u8] =
+/// Two callers, each with a call that changes attributes.
+pub const TWO_CALLERS: &[u8] =
     b"machine frames=8 user=16 vcpus=1 callers=2 huge=off\nc0 attrs 0 4096 8 0\nc1 attrs 0 0 0 0\n";
 
-// The turns of both callers: whose it is, what it comes to, how many entries there are then, and what is told of both.
-fn both_callers(rt: &impl Abort, machine: &mut Machine) {
+/// The second caller of `TWO_CALLERS` waits for the lock that the call of the first one holds. Of each turn: whose it
+/// is, what it comes to, how many entries there are then, and what is told of both callers.
+pub fn try_lock(rt: &impl Abort, machine: &mut Machine) {
     let waits = Outcome::Waits(Blocker::Lock(0));
     tells(rt, machine, 0, FREE);
     tells(rt, machine, 1, FREE);
@@ -91,16 +92,9 @@ fn both_callers(rt: &impl Abort, machine: &mut Machine) {
     }
 }
 
-// The second caller waits for the lock that the call of the first one holds.
-#[test]
-fn waits_for_the_lock(rt: HostRuntime) -> Result<(), Fail> {
-    let mut machine = machine_of(rt.alloc(), TWO_CALLERS).ok_or("a machine")?;
-    both_callers(&rt, &mut machine);
-    Ok(())
-}
-
-// The turns of the first caller: how many brackets are in progress after each, and the attribute of the first page.
-fn one_bracket(rt: &impl Abort, machine: &mut Machine) {
+/// The attribute changes while the bracket of the first caller of `TWO_CALLERS` is in progress. Of each turn: how many
+/// brackets are in progress then, and the attribute of the first page.
+pub fn try_bracket(rt: &impl Abort, machine: &mut Machine) {
     shows(rt, machine, 0, Kind::Shared);
     for (count, kind) in [
         (0, Kind::Shared),
@@ -114,15 +108,8 @@ fn one_bracket(rt: &impl Abort, machine: &mut Machine) {
     }
 }
 
-// The attribute changes while the bracket is in progress.
-#[test]
-fn an_attribute_in_its_bracket(rt: HostRuntime) -> Result<(), Fail> {
-    let mut machine = machine_of(rt.alloc(), TWO_CALLERS).ok_or("a machine")?;
-    one_bracket(&rt, &mut machine);
-    Ok(())
-}
-
-const CONVERSION: &[u8] =
+/// A read of a slot, and a call that changes the attribute of its page.
+pub const CONVERSION: &[u8] =
     b"machine frames=8 user=16 vcpus=1 callers=1 huge=off\nc0 region 0 0 0 16384 0 0 0\nc0 attrs 0 4096 8 0\nv0 read shared 0\n";
 
 // A kick of the first vCPU, which comes to this, and whether its flush was pending before.
@@ -134,7 +121,8 @@ fn kicks(rt: &impl Abort, machine: &mut Machine, pending: bool, outcome: Outcome
     assert!(rt; !machine.flush_pending(0));
 }
 
-fn one_vcpu(rt: &impl Abort, machine: &mut Machine) {
+/// The bracket of `CONVERSION` waits for the vCPU, which is inside, until that is kicked.
+pub fn try_kick(rt: &impl Abort, machine: &mut Machine) {
     turns(rt, machine, Actor::Caller(0), 1);
     turns(rt, machine, Actor::Vcpu(0), 8);
     kicks(rt, machine, false, Outcome::Nothing);
@@ -146,12 +134,4 @@ fn one_vcpu(rt: &impl Abort, machine: &mut Machine) {
     kicks(rt, machine, true, Outcome::Moved);
     tells(rt, machine, 0, IN_CALL);
     moves(rt, machine, 0, Outcome::Moved, 15);
-}
-
-// A bracket waits for a vCPU that is inside, until that is kicked.
-#[test]
-fn waits_for_a_vcpu(rt: HostRuntime) -> Result<(), Fail> {
-    let mut machine = machine_of(rt.alloc(), CONVERSION).ok_or("a machine")?;
-    one_vcpu(&rt, &mut machine);
-    Ok(())
 }
