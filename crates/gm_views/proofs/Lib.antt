@@ -1,0 +1,5 @@
+pub mod Prefixes
+pub mod Publishing
+pub mod Rising
+pub mod Spying
+pub mod Views

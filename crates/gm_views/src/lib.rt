@@ -2,10 +2,20 @@
 #![tactic(auto)]
 
 mod attributes;
+mod doors;
+mod publisher;
+mod rule;
 mod shown;
 mod sights;
 mod slot_list;
 mod slots;
+mod spies;
+mod spy;
 
+pub use doors::{Door, Doors, Glimpse};
+pub use publisher::Publisher;
+pub use rule::{Known, Look, Note, Put, Rule, ViewReader, ViewWriter};
 pub use shown::{Change, Content, Shown};
 pub use sights::{AttrCall, Sight};
+pub use spies::Spies;
+pub use spy::Spy;
