@@ -1,3 +1,4 @@
+pub mod Following
 pub mod Prefixes
 pub mod Publishing
 pub mod Rising

@@ -5,3 +5,4 @@ pub mod Rules
 pub mod Shows
 pub mod Sights
 pub mod Spies
+pub mod Writers

@@ -3,6 +3,7 @@
 
 mod attributes;
 mod doors;
+mod laws;
 mod publisher;
 mod rule;
 mod shown;
@@ -13,6 +14,7 @@ mod spies;
 mod spy;
 
 pub use doors::{Door, Doors, Glimpse};
+pub use laws::views_follow_the_flat_state;
 pub use publisher::Publisher;
 pub use rule::{Known, Look, Note, Put, Rule, ViewReader, ViewWriter};
 pub use shown::{Change, Content, Shown};

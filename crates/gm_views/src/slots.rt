@@ -3,7 +3,7 @@
 ghost use Rattle.std.specs.Prelude.{◌≡◌, ◌<◌, ◌≤◌, [], ◌∷◌, IfOk, length, nat_lt, vec_len, vec_capacity, if◌then◌else◌};
 ghost use Rattle.gm_base.specs.declared.numbers.TheConstants.{SLOT_IDS};
 ghost use Rattle.gm_flat.specs.Slots.{slot_over};
-ghost use Rattle.gm_views.specs.Follows.{with_slot, slots_after};
+ghost use Rattle.gm_views.specs.Follows.{slot_added, slots_after};
 
 use crate::slot_list::{drop_id, find_over, mark_id, move_id, put_first, shut_file};
 use gm_base::{NoMemory, Page, SLOT_IDS};
@@ -81,7 +81,7 @@ impl ShownSlots {
 
     // Puts a slot in front, where there are fewer than there are ids.
     fn add(&mut self, slot: SlotView)
-        ensures { self.new ≡ with_slot slot self.old }
+        ensures { self.new ≡ slot_added slot self.old }
     {
         if self.list.len() < SLOT_IDS as usize {
             put_first(&mut self.list, slot);

@@ -6,6 +6,7 @@ ghost use Rattle.left_right.specs.Sides.{view};
 ghost use Rattle.gm_views.specs.Doors.{Enters, Rose};
 ghost use Rattle.gm_views.specs.Glimpses.{Shows};
 ghost use Rattle.gm_views.specs.Rules.{newcomer, informed};
+ghost use Rattle.gm_views.specs.Writers.{pending};
 
 use super::{Door, Doors, Glimpse};
 use crate::rule::{Known, Look, Note, Rule, ViewReader, ViewWriter};
@@ -91,7 +92,7 @@ impl Door {
     pub(crate) fn learn(&mut self, writer: &mut ViewWriter)
         ensures known { IfSome self.new.known (λ w. w ≡ informed newcomer (view writer.old.desk.place)) }
         ensures count { self.new.refused ≡ self.old.refused }
-        ensures writer { (writer.new.desk.shown ≡ writer.old.desk.shown) × (writer.new.log ≡ writer.old.log) × (writer.new.behind ≡ writer.old.behind) × (view writer.new.desk.place ≡ view writer.old.desk.place) }
+        ensures writer { (writer.new.desk.shown ≡ writer.old.desk.shown) × (pending writer.new ≡ pending writer.old) × (view writer.new.desk.place ≡ view writer.old.desk.place) }
     {
         self.reader = None;
         if let Ok(mut reader) = writer.factory().reader() {

@@ -1,10 +1,11 @@
 //! What the writer does.
 
-ghost use Rattle.std.specs.Prelude.{◌≡◌, ◌+◌, ◌^◌, ◌<◌, ◌≤◌, [], ◌∷◌, ◌++◌, length, drop, map, All, IfOk, IfSome, OnOk, OnErr};
+ghost use Rattle.std.specs.Prelude.{◌≡◌, ◌+◌, ◌^◌, ◌<◌, ◌≤◌, [], ◌∷◌, ◌++◌, length, map, All, IfOk, IfSome, OnOk, OnErr};
 ghost use Rattle.left_right.specs.Sides.{view};
 ghost use Rattle.gm_views.specs.Rules.{IsShown, Puts};
 ghost use Rattle.gm_views.specs.Shows.{changed, sight_of};
 ghost use Rattle.gm_views.specs.Sights.{last_of};
+ghost use Rattle.gm_views.specs.Writers.{pending};
 
 use super::Publisher;
 use crate::doors::{Door, Doors};
@@ -19,12 +20,12 @@ use std::sync::Wait;
 // Publishes the one change that was noted.
 fn publish_one<R: Wait>(writer: ViewWriter, rt: &R) -> (ViewWriter, ())
     requires shown { IsShown writer.desk.shown.value (view writer.desk.place).seen }
-    requires waiting { length (drop writer.behind writer.log.items) ≡ 1 }
+    requires waiting { length (pending writer) ≡ 1 }
     requires room { 0 < writer.desk.shown.value.room }
-    requires later { All (λ c. (last_of (view writer.desk.place).seen).position ≤ c.position) (drop writer.behind writer.log.items) }
+    requires later { All (λ c. (last_of (view writer.desk.place).seen).position ≤ c.position) (pending writer) }
     ensures puts { Puts (view writer.desk.place) writer.desk.shown.value result.0.desk.shown.value (view result.0.desk.place) }
-    ensures change { sight_of result.0.desk.shown.value ∷ [] ≡ map (changed (last_of (view writer.desk.place).seen)) (drop writer.behind writer.log.items) }
-    ensures waiting { drop result.0.behind result.0.log.items ≡ [] }
+    ensures change { sight_of result.0.desk.shown.value ∷ [] ≡ map (changed (last_of (view writer.desk.place).seen)) (pending writer) }
+    ensures waiting { pending result.0 ≡ [] }
     ensures room { result.0.desk.shown.value.room + 1 ≡ writer.desk.shown.value.room }
 {
     let (writer, published) = writer.publish_as::<Put, R>(rt);
