@@ -8,5 +8,4 @@ ghost use Rattle.gm_views.specs.Follows.{FindsRoom, FollowsFlat};
 /// wherever the flat state asks for nothing that isn't there and a new slot finds room.
 pub fn views_follow_the_flat_state()
     ensures { (e : Effect) (f : Flat) → FindsRoom e f → FollowsFlat e f }
-{
-}
+{}

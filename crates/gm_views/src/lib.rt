@@ -21,3 +21,6 @@ pub use shown::{Change, Content, Shown};
 pub use sights::{AttrCall, Sight};
 pub use spies::Spies;
 pub use spy::Spy;
+
+#[cfg(test)]
+mod tests;

@@ -72,10 +72,8 @@ impl ShownSlots {
             Effect::NoSlot { slot } => drop_id(&mut self.list, slot),
             Effect::Move { slot, base } => move_id(&mut self.list, slot, base),
             Effect::Shut { file } => shut_file(&mut self.list, file),
-            Effect::File { .. }
-            | Effect::Attr { .. }
-            | Effect::Cut { .. }
-            | Effect::Word { .. } => {}
+            Effect::File { .. } | Effect::Attr { .. } | Effect::Cut { .. } | Effect::Word { .. } =>
+                {}
         }
     }
 

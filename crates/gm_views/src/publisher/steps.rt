@@ -69,6 +69,13 @@ impl Publisher {
         self.writer.published().number
     }
 
+    /// The position of the view that was published last.
+    pub fn position(&self) -> u64
+        ensures { result ≡ (last_of self.now.published).position }
+    {
+        self.writer.published().position
+    }
+
     /// Notes a change, which readers don't see yet. After an error the writer is as before.
     pub fn append(&mut self, change: Change) -> Result<(), NoMemory>
         ensures ok { OnOk result (self.new ≡ record self.old { waiting = self.old.waiting ++ change ∷ [] }) }
