@@ -1,5 +1,5 @@
 -- A view follows the flat state.
-use Rattle.std.proofs.Common.{◌≡◌, ◌∙◌, ℕ, ◌<◌, List, ◌∷◌, length, Bool, true, false, cond, nat_lt, Some, None, refl, sym, ap, arith}
+use Rattle.std.proofs.Common.{◌≡◌, ◌∙◌, ℕ, ◌<◌, List, ◌∷◌, length, Bool, true, false, cond, nat_lt, refl, sym, ap, arith}
 use Rattle.std.proofs.lemmas.Bool.Decides.{nat_tests}
 use Rattle.gm_base.specs.declared.numbers.TheConstants.{SLOT_IDS}
 use Rattle.gm_flat.specs.declared.effect.Effect.{Effect}

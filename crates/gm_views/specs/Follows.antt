@@ -1,5 +1,5 @@
 -- What an effect does to the slots and the attribute calls of a view. Both lists have the newest first.
-use Rattle.std.specs.Prelude.{◌≡◌, ℕ, ◌<◌, List, [], ◌∷◌, length, true, false, nat_lt, None, Some, if◌then◌else◌}
+use Rattle.std.specs.Prelude.{◌≡◌, ℕ, ◌<◌, List, ◌∷◌, length, true, false, nat_lt, None, Some, if◌then◌else◌}
 use Rattle.std.specs.declared.option.Option.{Option}
 use Rattle.gm_base.specs.declared.numbers.TheConstants.{SLOT_IDS}
 use Rattle.gm_flat.specs.declared.effect.Effect.{Effect}
