@@ -1,5 +1,5 @@
 -- What contracts see of readers and of the writer.
-use Rattle.std.specs.Prelude.{◌≡◌, ℕ, ◌+◌, ◌-◌, ◌^◌, ◌≤◌, List, min}
+use Rattle.std.specs.Prelude.{◌≡◌, ℕ, ◌+◌, ◌-◌, ◌^◌, List, min}
 use Rattle.std.specs.declared.option.Option.{Option}
 use mathlib.Core.List.{IsPrefix}
 use Rattle.gm_views.specs.declared.sights.Sight.{Sight}
@@ -7,9 +7,9 @@ use Rattle.gm_views.specs.declared.shown.Change.{Change}
 use Rattle.gm_views.specs.declared.rule.Known.{Known}
 use Rattle.gm_views.specs.Sights.{Rises}
 
--- the count rose, or stands at its last value
+-- the count rose by one, or stands at its last value
 abbrev pub Rose : ℕ → ℕ → Type 0
-Rose before now = min (before + 1) (2 ^ 64 - 1) ≤ now
+Rose before now = now ≡ min (before + 1) (2 ^ 64 - 1)
 
 -- a door: how often it was refused, and what its reader knows, if it has one
 pub record DoorSeen : Type 0 where

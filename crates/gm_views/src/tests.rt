@@ -145,10 +145,9 @@ fn step_of(effect: Effect, slot: Option<SlotView>, attr: Kind) -> Step {
     }
 }
 
-#[test]
-fn a_door_sees_each_view(rt: HostRuntime) -> Result<(), Fail> {
-    let page = Page::new(7).ok_or("a page")?;
-    let span = Span::new(6, 9).ok_or("a span")?;
+// A slot with a file is made over page 7, which becomes private; the slot is marked and moves; its file is shut, the page
+// becomes shared again, and the slot goes.
+fn steps_over(span: Span) -> [Step; 7] {
     let marked = SlotView {
         invalid: true,
         ..SLOT
@@ -158,16 +157,17 @@ fn a_door_sees_each_view(rt: HostRuntime) -> Result<(), Fail> {
         file: None,
         ..moved
     };
-    let steps = [
+    let private = Effect::Attr {
+        span,
+        kind: Kind::Private,
+    };
+    let shared = Effect::Attr {
+        span,
+        kind: Kind::Shared,
+    };
+    [
         step_of(MADE, Some(SLOT), Kind::Shared),
-        step_of(
-            Effect::Attr {
-                span,
-                kind: Kind::Private,
-            },
-            Some(SLOT),
-            Kind::Private,
-        ),
+        step_of(private, Some(SLOT), Kind::Private),
         step_of(Effect::Mark { slot: 3 }, Some(marked), Kind::Private),
         step_of(
             Effect::Move { slot: 3, base: 6 },
@@ -175,16 +175,15 @@ fn a_door_sees_each_view(rt: HostRuntime) -> Result<(), Fail> {
             Kind::Private,
         ),
         step_of(Effect::Shut { file: 5 }, Some(shut), Kind::Private),
-        step_of(
-            Effect::Attr {
-                span,
-                kind: Kind::Shared,
-            },
-            Some(shut),
-            Kind::Shared,
-        ),
+        step_of(shared, Some(shut), Kind::Shared),
         step_of(Effect::NoSlot { slot: 3 }, None, Kind::Shared),
-    ];
+    ]
+}
+
+#[test]
+fn a_door_sees_each_view(rt: HostRuntime) -> Result<(), Fail> {
+    let page = Page::new(7).ok_or("a page")?;
+    let steps = steps_over(Span::new(6, 9).ok_or("a span")?);
     let publisher = Publisher::new(rt.alloc(), 7, 2).ok().ok_or("memory")?;
     let seen = seen_by_a_door(&rt, publisher, page, &steps).ok_or("a door")?;
     let first = Glimpse {
