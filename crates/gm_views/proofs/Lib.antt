@@ -1,0 +1,6 @@
+pub mod Following
+pub mod Prefixes
+pub mod Publishing
+pub mod Rising
+pub mod Spying
+pub mod Views
