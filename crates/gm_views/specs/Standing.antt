@@ -7,6 +7,7 @@ use Rattle.gm_flat.specs.Slots.{slot_by_id}
 use Rattle.gm_flat.specs.Calls.{meets_slot}
 use Rattle.gm_flat.specs.Effects.{U64_LIMIT, dropped}
 
+-- whether there is none
 abbrev pub is_absent : Option SlotView → Bool
 is_absent None = true
 is_absent (Some s) = false
