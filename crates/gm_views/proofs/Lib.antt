@@ -3,4 +3,5 @@ pub mod Prefixes
 pub mod Publishing
 pub mod Rising
 pub mod Spying
+pub mod Standing
 pub mod Views

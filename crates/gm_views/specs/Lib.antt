@@ -5,4 +5,5 @@ pub mod Rules
 pub mod Shows
 pub mod Sights
 pub mod Spies
+pub mod Standing
 pub mod Writers

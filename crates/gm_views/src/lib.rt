@@ -8,7 +8,6 @@ mod publisher;
 mod rule;
 mod shown;
 mod sights;
-mod slot_list;
 mod slots;
 mod spies;
 mod spy;

@@ -1,7 +1,8 @@
 ghost use Rattle.std.specs.Prelude.{◌≡◌, [], IfOk};
 
 use super::*;
-use gm_base::{Kind, Page, Span};
+use crate::slots::ShownSlots;
+use gm_base::{Kind, Page, SLOT_IDS, Span};
 use gm_flat::{Effect, Looked, Sampled, SlotView};
 use std::sync::Wait;
 use std::test::Fail;
@@ -266,5 +267,59 @@ fn a_spy_is_told(rt: HostRuntime) -> Result<(), Fail> {
     assert_eq!(rt; told.sampled, Some(Sampled { at: 12, seq: 1 }));
     assert_eq!(rt; told.looked, Some(looked));
     assert_eq!(rt; (told.twice, told.late, told.refused), (false, None, 1));
+    Ok(())
+}
+
+// A slot that is made, of user pages from 0 on and without a file.
+fn made(slot: u32, base: u64, pages: u64) -> Effect {
+    Effect::Slot {
+        slot,
+        base,
+        pages,
+        user: 0,
+        flags: 0,
+        file: None,
+        index: 0,
+    }
+}
+
+// The id of the slot over a page.
+fn id_over(slots: &ShownSlots, page: u64) -> Option<u32> {
+    let page = Page::new(page)?;
+    slots.find(page).map(|slot| slot.id)
+}
+
+#[test]
+fn slots_stay_apart(rt: HostRuntime) -> Result<(), Fail> {
+    let mut slots = ShownSlots::new(rt.alloc()).ok().ok_or("memory")?;
+    slots.follow(&made(3, 4, 2));
+    // Its id is taken, it meets another, it has no page, no id or no end.
+    slots.follow(&made(3, 8, 1));
+    slots.follow(&made(4, 3, 2));
+    slots.follow(&made(5, 8, 0));
+    slots.follow(&made(SLOT_IDS, 8, 1));
+    slots.follow(&made(6, u64::MAX, 2));
+    assert_eq!(rt;
+        (id_over(&slots, 5), id_over(&slots, 3), id_over(&slots, 8)),
+        (Some(3), None, None)
+    );
+    slots.follow(&made(4, 0, 1));
+    slots.follow(&Effect::Move { slot: 4, base: 5 });
+    slots.follow(&Effect::Move { slot: 5, base: 9 });
+    slots.follow(&Effect::Move {
+        slot: 3,
+        base: u64::MAX,
+    });
+    assert_eq!(rt;
+        (id_over(&slots, 0), id_over(&slots, 9), id_over(&slots, 5)),
+        (Some(4), None, Some(3))
+    );
+    slots.follow(&Effect::Move { slot: 4, base: 6 });
+    // It moves over its own pages.
+    slots.follow(&Effect::Move { slot: 3, base: 3 });
+    assert_eq!(rt;
+        (id_over(&slots, 6), id_over(&slots, 3), id_over(&slots, 5)),
+        (Some(4), Some(3), None)
+    );
     Ok(())
 }
