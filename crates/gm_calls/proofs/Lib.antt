@@ -1,3 +1,4 @@
+pub mod AtOnceRows
 pub mod Bound
 pub mod FileRows
 pub mod Filling

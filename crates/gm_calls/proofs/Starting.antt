@@ -1,5 +1,5 @@
 -- What is lent at the start: no slot, no file and no private page.
-use Rattle.std.proofs.Common.{◌≡◌, ℕ, ◌≤◌, List, [], Option, None, length, arith, ap, refl, subst, sym, slice_index_or}
+use Rattle.std.proofs.Common.{◌≡◌, List, [], Option, None, length, arith, ap, refl, subst, sym, slice_index_or}
 use Rattle.gm_attr.specs.Kinds.{Tells as TellsKinds}
 use Rattle.gm_file.specs.Views.{FileView}
 use Rattle.gm_flat.specs.FlatState.{start}

@@ -1,3 +1,4 @@
+pub mod AtOnce
 pub mod Lent
 pub mod Judgements
 pub mod LockSets

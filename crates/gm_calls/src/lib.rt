@@ -1,6 +1,7 @@
 //! What a call comes to over the state, which locks it needs, and the steps that it takes.
 #![tactic(auto)]
 
+mod at_once;
 mod attributes;
 mod call;
 mod cuts;
@@ -14,6 +15,7 @@ mod regions;
 mod spanned;
 mod words;
 
+pub use at_once::change_at_once;
 pub use call::{Call, Step};
 pub use judged::{Judged, PagePlan};
 pub use judging::judge;

@@ -75,7 +75,7 @@ fn put_whole(slots: &Slots, id: u32, spans: &mut Spans)
 }
 
 /// The rows on the file of a new slot.
-fn judge_binding(parts: &Parts<'_>, region: &Region) -> Judged
+pub(crate) fn judge_binding(parts: &Parts<'_>, region: &Region) -> Judged
     requires range { RegionInRange parts.now.setup.user region.now }
     requires some { 0 < region.now.size }
     ensures { (f : Flat) → LentStand parts.now f → Tells parts.now.user.now (binding_rows region.now f) result [] }

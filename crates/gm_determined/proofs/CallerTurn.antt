@@ -37,48 +37,48 @@ use Rattle.gm_determined.proofs.Small.{false_true}
 use Rattle.gm_determined.proofs.Waits.{BracketFits, CallWaits, brackets_fit, calls_wait, unmarked}
 
 -- the rows, each with what its entries say
-record JudgeRow (o : Orders) (t c : ℕ) (ws : List What) (past : List Entry) : Type 0 where
-  ioctl : Ioctl
-  rest : List What
-  is : ws ≡ Judge ioctl ∷ rest
-  command : next_command o (Caller c) past ≡ Some (CallCommand ioctl)
-  row : is_first_row (plan o.setup ioctl (flat past)) rest ≡ true
-  each : EachMay o t (Caller c) rest (by t (Caller c) (Judge ioctl) ∷ past)
+pub record JudgeRow (o : Orders) (t c : ℕ) (ws : List What) (past : List Entry) : Type 0 where
+  pub ioctl : Ioctl
+  pub rest : List What
+  pub is : ws ≡ Judge ioctl ∷ rest
+  pub command : next_command o (Caller c) past ≡ Some (CallCommand ioctl)
+  pub row : is_first_row (plan o.setup ioctl (flat past)) rest ≡ true
+  pub each : EachMay o t (Caller c) rest (by t (Caller c) (Judge ioctl) ∷ past)
 
-abbrev AnswerRow : Orders → ℕ → List What → List Entry → Type 0
+abbrev pub AnswerRow : Orders → ℕ → List What → List Entry → Type 0
 AnswerRow o c ws past = (r : Reply) × (ws ≡ Answer r ∷ []) × RightAnswer o.setup r (call c past) past
 
 -- a Begin with its mark, where its call has one
-abbrev marks : Option Effect → List What
+abbrev pub marks : Option Effect → List What
 marks None = []
 marks (Some mark) = Change mark ∷ []
 
-abbrev BeginRow : Orders → ℕ → Option Effect → List What → List Entry → Type 0
+abbrev pub BeginRow : Orders → ℕ → Option Effect → List What → List Entry → Type 0
 BeginRow o c mark ws past = (spans : Roomy) × (ws ≡ Begin spans ∷ marks mark) × RightBegin o.setup spans.list (call c past) past
 
-abbrev EndRow : Orders → ℕ → ℕ → List What → List Entry → Type 0
+abbrev pub EndRow : Orders → ℕ → ℕ → List What → List Entry → Type 0
 EndRow o t c ws past = (r : Reply) × (ws ≡ End ∷ (Answer r ∷ [])) × RightAnswer o.setup r (call c past) (by t (Caller c) End ∷ past)
 
-abbrev PageRow : Orders → ℕ → List What → List Entry → Type 0
+abbrev pub PageRow : Orders → ℕ → List What → List Entry → Type 0
 PageRow o c ws past = (i : ℕ) × (fo : Folio) × (n : ℕ) × (ws ≡ Page i fo n ∷ []) × RightPage o.setup i (call c past) past × RightPageAdds o.setup (call c past) (page_adds i fo n (call c past) (states past)) past
 
-record ChangeRow (o : Orders) (t c : ℕ) (ws : List What) (past : List Entry) : Type 0 where
-  effect : Effect
-  frees : List What
-  is : ws ≡ Change effect ∷ frees
-  unmarking : is_mark effect ≡ false
-  right : RightChange o.setup effect (call c past) past
-  are : are_frees frees ≡ true
-  may : May o (Change effect) (Caller c) past
-  each : EachMay o t (Caller c) frees (by t (Caller c) (Change effect) ∷ past)
-  freed : AllFreed (onto t (Caller c) frees (by t (Caller c) (Change effect) ∷ past))
+pub record ChangeRow (o : Orders) (t c : ℕ) (ws : List What) (past : List Entry) : Type 0 where
+  pub effect : Effect
+  pub frees : List What
+  pub is : ws ≡ Change effect ∷ frees
+  pub unmarking : is_mark effect ≡ false
+  pub right : RightChange o.setup effect (call c past) past
+  pub are : are_frees frees ≡ true
+  pub may : May o (Change effect) (Caller c) past
+  pub each : EachMay o t (Caller c) frees (by t (Caller c) (Change effect) ∷ past)
+  pub freed : AllFreed (onto t (Caller c) frees (by t (Caller c) (Change effect) ∷ past))
 
 -- by the plan of the call in progress, its bracket, and whether it has made its change
-abbrev Acknowledged : Orders → ℕ → ℕ → Bool → List What → List Entry → Type 0
+abbrev pub Acknowledged : Orders → ℕ → ℕ → Bool → List What → List Entry → Type 0
 Acknowledged o t c true ws past = ChangeRow o t c ws past
 Acknowledged o t c false ws past = ws ≡ Acked ∷ []
 
-abbrev Planned : Orders → ℕ → ℕ → Plan → Option Bracket → Bool → List What → List Entry → Type 0
+abbrev pub Planned : Orders → ℕ → ℕ → Plan → Option Bracket → Bool → List What → List Entry → Type 0
 Planned o t c (Bracketed e spans) None true ws past = AnswerRow o c ws past
 Planned o t c (Bracketed e spans) None false ws past = BeginRow o c (mark_of e) ws past
 Planned o t c (Bracketed e spans) (Some b) true ws past = EndRow o t c ws past
@@ -86,7 +86,7 @@ Planned o t c (Bracketed e spans) (Some b) false ws past = Acknowledged o t c b.
 Planned o t c (Paged p) b made ws past = PageRow o c ws past ⊎ AnswerRow o c ws past
 Planned o t c _ b made ws past = ⊥
 
-abbrev Facts : Orders → ℕ → ℕ → Option Call → Option Bracket → List What → List Entry → Type 0
+abbrev pub Facts : Orders → ℕ → ℕ → Option Call → Option Bracket → List What → List Entry → Type 0
 Facts o t c None b ws past = JudgeRow o t c ws past
 Facts o t c (Some x) b ws past = Planned o t c (plan_of o.setup x past) b x.made ws past
 
@@ -196,10 +196,10 @@ facts_same o t c None b ws gs past r n x y = judges o t c ws gs past x y
 facts_same o t c (Some z) b ws gs past r n x y = planned_same o t c (plan_of o.setup z past) b z.made ws gs past r n x y
 
 -- a turn is of its state; none but Gone comes without a command
-abbrev State : Orders → ℕ → ℕ → Option Call → Option Bracket → Option Command → List What → List Entry → Type 0
+abbrev pub State : Orders → ℕ → ℕ → Option Call → Option Bracket → Option Command → List What → List Entry → Type 0
 State o t c z b k ws past = (k ≡ None → ⊥) × Facts o t c z b ws past
 
-abbrev View : Orders → ℕ → ℕ → List What → List Entry → Type 0
+abbrev pub View : Orders → ℕ → ℕ → List What → List Entry → Type 0
 View o t c ws past = ((ws ≡ Gone ∷ []) × (next_command o (Caller c) past ≡ None)) ⊎ State o t c (call c past) (bracket c past) (next_command o (Caller c) past) ws past
 
 pub some_next : (c : Option Command) (k : Command) → c ≡ Some k → c ≡ None → ⊥
@@ -318,7 +318,8 @@ known o c past r =
       waits = calls_wait o past r.follows c;
     }
 
-view : (o : Orders) (t c : ℕ) (ws : List What) (past : List Entry) → Known o past (call c past) (bracket c past) (next_command o (Caller c) past) → is_caller_row o.setup c ws past ≡ true → EachMay o t (Caller c) ws past → AllFreed (onto t (Caller c) ws past) → View o t c ws past
+-- a whole turn of a caller, read by what stands before it
+pub view : (o : Orders) (t c : ℕ) (ws : List What) (past : List Entry) → Known o past (call c past) (bracket c past) (next_command o (Caller c) past) → is_caller_row o.setup c ws past ≡ true → EachMay o t (Caller c) ws past → AllFreed (onto t (Caller c) ws past) → View o t c ws past
 view o t c (Judge i ∷ us) past k e m f = inr (judge_state o t c _ _ _ _ past m.0.none_in_progress (some_next _ (CallCommand i) m.0.command) (record { ioctl = i; rest = us; is = refl; command = m.0.command; row = e; each = m.1 }))
 view o t c (Begin spans ∷ us) past k e m f = inr (begin_state o t c spans us _ _ _ past k m.0.0 m.0.1 m.0.1 (record { row = e; right = λ d same. begin_right o t c d us (by t (Caller c) (Begin spans) ∷ past) same m.1 }))
 view o t c (Acked ∷ []) past k e m f = inr (acked_state o t c _ _ _ _ past k m.0 refl)

@@ -77,6 +77,13 @@ impl Inval {
         if self.count == 0 { None } else { self.kept }
     }
 
+    /// The range that would be kept if a bracket over the spans began now.
+    pub fn hull_with(&self, spans: &[Span]) -> Option<Span>
+        ensures { result ≡ widen_all (open_range self.now) spans.now }
+    {
+        widened(self.hull(), spans)
+    }
+
     /// Whether what was looked up for the page when the sequence was `sampled` may have changed since.
     pub fn stale(&self, sampled: u64, page: Page) -> bool
         ensures { result ≡ (range_holds (open_range self.now) page || not (nat_eq self.now.seq sampled)) }

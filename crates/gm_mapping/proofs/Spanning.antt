@@ -72,6 +72,12 @@ none_kept n kept = by_test (eqb n 0) kept
     by_test true kept = refl
     by_test false kept = refl
 
+-- the range that a bracket would keep if it began
+pub range_would : (p : Progress) (n : ℕ) (h : Option Extent) (ss : List Extent) → p.count ≡ n → open_range p ≡ h → widen_all (open_range p) ss ≡ widened (cond (eqb n 0) None h) ss
+range_would p n h ss e r =
+    let q : cond (eqb n 0) None h ≡ open_range p = rw (← r, ← e) (none_kept p.count p.kept) in
+    rw q (widen_same ss (open_range p))
+
 range_opens : (p : Progress) (n : ℕ) (h : Option Extent) (ss : List Extent) → p.count ≡ n → open_range p ≡ h → open_range (begun p ss) ≡ widened (cond (eqb n 0) None h) ss
 range_opens p n h ss e r =
     let k : eqb (p.count + 1) 0 ≡ false = more p.count in

@@ -3,7 +3,7 @@
 ghost use Rattle.std.specs.Prelude.{◌≡◌, ℕ, Some, if◌then◌else◌, ◌+◌, ◌-◌, ◌<◌, ◌≤◌, ◌^◌, ◌∷◌, [], ◌||◌, None, not, nat_eq, false, true, take, length, replicate, slice_set, IfOk, OnOk, OnErr, MatchOption};
 ghost use Rattle.gm_base.specs.Leaf.{covers};
 ghost use Rattle.gm_base.specs.declared.numbers.TheConstants.{BUFFER_FILLS, COUNTER_LIMIT};
-ghost use Rattle.gm_inval.specs.Range.{begun, open_range, range_holds, range_meets};
+ghost use Rattle.gm_inval.specs.Range.{begun, open_range, range_holds, range_meets, widen_all};
 ghost use Rattle.gm_table.specs.Leaves.{extent_of, installed, leaf_over, unless_met, IsInstallable};
 ghost use Rattle.gm_tlb.specs.Requests.{outside, seat_of, with_seat, has_pending, IsDoneByAll, IsLeastWaiting};
 ghost use Rattle.gm_mmu.specs.Served.{fills_of, apart_from_all, unless_one_met, served, walked};
@@ -200,6 +200,13 @@ impl Mmu {
         ensures { result ≡ open_range self.now.progress }
     {
         self.inval.hull()
+    }
+
+    /// The range that would be kept if a bracket over the spans began now.
+    pub fn hull_with(&self, spans: &[Span]) -> Option<Span>
+        ensures { result ≡ widen_all (open_range self.now.progress) spans.now }
+    {
+        self.inval.hull_with(spans)
     }
 
     /// Whether what was looked up for the page when the sequence was `sampled` may have changed since.

@@ -98,7 +98,7 @@ ack_unblocked k c effect t lt at all = unblocked_ack (orders_of k) c effect t.st
 
 -- the blocker of a caller
 
-present_is : (k : Core) (c : ℕ) → Settled k → c < k.setup.callers → (caller_at k.callers c).gone ≡ false → gone (Caller c) k.log.past ≡ false
+pub present_is : (k : Core) (c : ℕ) → Settled k → c < k.setup.callers → (caller_at k.callers c).gone ≡ false → gone (Caller c) k.log.past ≡ false
 present_is k c t lt e = sym (t.stands.callers.each c lt).gone_is ∙ e
 
 -- of a call in progress

@@ -1,3 +1,6 @@
+pub mod CoreForetold
+pub mod ForetoldTurns
+pub mod Loudness
 pub mod ActorTurns
 pub mod BeginTurns
 pub mod BracketTurns

@@ -1,5 +1,7 @@
+pub mod Ahead
 pub mod Brackets
 pub mod Faulting
+pub mod Foretold
 pub mod HasMoreRoom
 pub mod Judging
 pub mod Logs

@@ -21,7 +21,7 @@ use gm_calls::{Judged, Step};
 use gm_flat::{Effect, Reply, What};
 
 /// The slot that a call marks where its bracket begins: that of a deletion or a move.
-fn slot_to_mark(call: &Option<InProgress>) -> Option<u32>
+pub fn slot_to_mark(call: &Option<InProgress>) -> Option<u32>
     ensures { result ≡ slot_to_mark call.now }
 {
     match call {
@@ -87,7 +87,7 @@ fn ioctl_of(call: &Option<InProgress>) -> Ioctl
 }
 
 /// The change that the call in progress makes in its bracket.
-fn effect_of(call: &Option<InProgress>) -> Effect
+pub fn effect_of(call: &Option<InProgress>) -> Effect
     requires { IsAtStep (Some Acked) call.now }
     ensures { (effect : Effect) → IsAt effect (Some Acked) call.now → result ≡ effect }
 {

@@ -5,6 +5,7 @@ mod brackets;
 mod caller_turns;
 mod calls;
 mod faults;
+mod foretelling;
 mod frees;
 mod guest;
 mod log;
@@ -21,8 +22,9 @@ mod turns;
 mod vcpu_turns;
 mod waiting;
 
+pub use foretelling::ahead;
 pub use log::Log;
-pub use outcome::{Blocker, How, Outcome};
+pub use outcome::{Ahead, Blocker, How, Outcome};
 pub use parts::Core;
 pub use pushing::push;
 pub use room::make_room;
