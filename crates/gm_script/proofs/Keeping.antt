@@ -1,5 +1,5 @@
 -- A line keeps what is known of a script.
-use Rattle.std.proofs.Common.{◌≡◌, ℕ, ◌+◌, ◌*◌, ◌<◌, ◌≤◌, List, [], ◌∷◌, length, Bool, true, false, if◌then◌else◌, codes, not, ◌&&◌, ◌||◌, ltb, leb, Some, None, Option, Ok, Err, Result, refl, ap, subst, arith, replicate, length-append, length-set}
+use Rattle.std.proofs.Common.{◌≡◌, ℕ, ◌+◌, ◌*◌, ◌<◌, ◌≤◌, List, [], ◌∷◌, length, Bool, true, false, if◌then◌else◌, codes, not, ◌&&◌, ltb, leb, Some, None, Option, Ok, Err, Result, refl, ap, subst, arith, replicate, length-append, length-set}
 use Rattle.std.specs.List.{All}
 use Rattle.std.proofs.lemmas.List.{length-replicate}
 use Rattle.std.proofs.lemmas.List.Elements.{All-nil, All-cons, All-append, All-replicate}

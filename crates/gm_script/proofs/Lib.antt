@@ -1,6 +1,7 @@
 pub mod Digits
+pub mod Finding
 pub mod Keeping
 pub mod LineCuts
 pub mod Puts
 pub mod Turns
-pub mod Words
+pub mod WordCuts

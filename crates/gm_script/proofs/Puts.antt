@@ -1,5 +1,5 @@
 -- One more command in one of the lists.
-use Rattle.std.proofs.Common.{◌≡◌, ◌⊎◌, inl, inr, ℕ, ◌+◌, ◌<◌, List, [], ◌∷◌, ◌++◌, zero, suc, length, set, get_or, slice_get, IfSome, Bool, true, false, Some, refl, sym, ap, ◌∙◌, arith, replicate}
+use Rattle.std.proofs.Common.{◌≡◌, ℕ, ◌+◌, ◌<◌, List, [], ◌∷◌, ◌++◌, zero, suc, length, set, get_or, slice_get, IfSome, refl, arith, replicate}
 use Rattle.std.proofs.lemmas.Grind.{common_steps}
 use Rattle.gm_base.specs.declared.script.Command.{Command}
 use Rattle.gm_script.specs.Schedules.{command_count}

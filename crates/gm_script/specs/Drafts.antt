@@ -1,5 +1,5 @@
 -- A script as far as it was read.
-use Rattle.std.specs.Prelude.{◌≡◌, ℕ, ◌+◌, Result, Err}
+use Rattle.std.specs.Prelude.{◌≡◌, ◌+◌, Result, Err}
 use Rattle.gm_script.specs.declared.draft.Draft as draft
 use Rattle.gm_script.specs.declared.draft.Refused.{Refused}
 use Rattle.gm_script.specs.declared.draft.Refused.TheVariants.{Bad, NoMemory}

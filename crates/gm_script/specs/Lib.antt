@@ -7,6 +7,7 @@ pub mod Kept
 pub mod Lines
 pub mod Numbers
 pub mod Orders
+pub mod Places
 pub mod Refusals
 pub mod Rounds
 pub mod Setups

@@ -1,5 +1,5 @@
 -- What is known of a script that was read.
-use Rattle.std.specs.Prelude.{◌≡◌, ℕ, ◌+◌, ◌≤◌, false, List, [], ◌∷◌, length, All, IfSome, slice_get, slice_index_or}
+use Rattle.std.specs.Prelude.{◌≡◌, ℕ, ◌+◌, ◌≤◌, List, [], ◌∷◌, length, All, IfSome, slice_get, slice_index_or}
 use Rattle.gm_base.specs.declared.script.Command.{Command}
 use Rattle.gm_base.specs.declared.script.Command.TheVariants.{Touch, Call}
 use Rattle.gm_base.specs.declared.values.Setup.{Setup}

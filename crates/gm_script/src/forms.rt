@@ -1,11 +1,11 @@
 //! The forms of a line.
 
 ghost use Rattle.std.specs.Prelude.{◌≡◌, length};
-ghost use Rattle.gm_script.specs.Lines.{words_of};
 ghost use Rattle.gm_script.specs.Forms.{kind_of, call_name_of, call_words, call_form, access_form, turn_form, kick_form, form_of};
 
 use crate::actors::{Named, read_actor};
-use crate::split::{count_words, is_word, word};
+use crate::split::is_word;
+use crate::words::Words;
 use gm_base::Kind;
 
 /// The calls, by their words.
@@ -36,23 +36,23 @@ pub enum Form {
 
 /// The form of a line. None where it has none.
 #[tactic(auto, unfolding(crate::specs::Forms::form_of))]
-pub fn read_form(line: &[u8]) -> Option<Form>
-    ensures { result ≡ form_of (words_of line.now) }
+pub fn read_form(words: &Words<'_>) -> Option<Form>
+    ensures { result ≡ form_of words.now }
 {
-    let count = count_words(line);
-    let first = word(line, 0);
+    let count = words.count();
+    let first = words.word(0);
     if is_word(first, b"turn") {
-        return form_of_turns(count, read_actor(word(line, 1)));
+        return form_of_turns(count, read_actor(words.word(1)));
     }
     if is_word(first, b"kick") {
-        return form_of_kick(count, read_actor(word(line, 1)));
+        return form_of_kick(count, read_actor(words.word(1)));
     }
     if is_word(first, b"round") {
         return if count == 2 { Some(Form::Round) } else { None };
     }
     match read_actor(first) {
-        Some(Named::Vcpu(vcpu)) => form_of_access(vcpu, count, word(line, 1), word(line, 2)),
-        Some(Named::Caller(caller)) => form_of_call(caller, count, read_call_name(word(line, 1))),
+        Some(Named::Vcpu(vcpu)) => form_of_access(vcpu, count, words.word(1), words.word(2)),
+        Some(Named::Caller(caller)) => form_of_call(caller, count, read_call_name(words.word(1))),
         None => None,
     }
 }

@@ -30,6 +30,7 @@ mod orders;
 mod script;
 mod setup;
 mod split;
+mod words;
 
 pub use error::{Cause, ScriptError};
 pub use gm_base::{Command, Turn};

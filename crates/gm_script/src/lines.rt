@@ -1,7 +1,7 @@
 //! What a line says.
 
 ghost use Rattle.std.specs.Prelude.{◌≡◌, ◌+◌, Some, None, Ok, Err, IfErr, IfOk, IfSome, OnOk, MatchResult, option_map, true};
-ghost use Rattle.gm_script.specs.Lines.{words_of};
+ghost use Rattle.gm_script.specs.Lines.{is_skipped};
 ghost use Rattle.gm_script.specs.Grammar.{ordered, later_line, after_line, empty_draft};
 ghost use Rattle.gm_script.specs.Schedules.{IsWithin};
 ghost use Rattle.gm_script.specs.Drafts.{draft_of, IsScriptDraft, RefusedFor};
@@ -11,7 +11,8 @@ use crate::error::Cause;
 use crate::forms::read_form;
 use crate::orders::{Order, read_order};
 use crate::setup::read_setup;
-use crate::split::{has_bad_byte, is_skipped, is_word, word};
+use crate::split::{begins, has_bad_byte, is_word};
+use crate::words::Words;
 use gm_base::Setup;
 
 /// Reads a line before the `machine` line is found: its setup where it is that line, None where it is skipped, or its
@@ -29,10 +30,11 @@ pub fn read_first(line: &[u8], is_ended: bool) -> Result<Option<Setup>, Cause>
     if !is_ended {
         return Err(Cause::Cut);
     }
-    if is_skipped(line) {
+    let words = Words::of(line);
+    if is_skipped(&words) {
         return Ok(None);
     }
-    let setup = read_setup(line)?;
+    let setup = read_setup(&words)?;
     Ok(Some(setup))
 }
 
@@ -49,26 +51,35 @@ pub fn read_later(draft: &mut Draft, line: &[u8], is_ended: bool) -> Result<(), 
     if !is_ended {
         return Err(Refused::Bad(Cause::Cut));
     }
-    if is_skipped(line) {
+    let words = Words::of(line);
+    if is_skipped(&words) {
         return Ok(());
     }
-    read_words(draft, line)
+    read_words(draft, &words)
+}
+
+/// Whether there is no word, or the first one begins with `#`.
+#[tactic(auto, unfolding(crate::specs::Lines::is_skipped))]
+fn is_skipped(words: &Words<'_>) -> bool
+    ensures { result ≡ is_skipped words.now }
+{
+    words.count() == 0 || begins(b"#", words.word(0))
 }
 
 #[tactic(auto, unfolding(crate::specs::Grammar::later_line))]
-fn read_words(draft: &mut Draft, line: &[u8]) -> Result<(), Refused>
+fn read_words(draft: &mut Draft, words: &Words<'_>) -> Result<(), Refused>
     requires { IsScriptDraft (draft_of draft.old) }
-    ensures ok { OnOk result (later_line (draft_of draft.old) (words_of line.now) ≡ Ok (draft_of draft.new)) }
-    ensures bad { IfErr result (RefusedFor (later_line (draft_of draft.old) (words_of line.now))) }
+    ensures ok { OnOk result (later_line (draft_of draft.old) words.now ≡ Ok (draft_of draft.new)) }
+    ensures bad { IfErr result (RefusedFor (later_line (draft_of draft.old) words.now)) }
 {
-    if is_word(word(line, 0), b"machine") {
+    if is_word(words.word(0), b"machine") {
         return Err(Refused::Bad(Cause::Machine));
     }
-    let form = match read_form(line) {
+    let form = match read_form(words) {
         Some(form) => form,
         None => return Err(Refused::Bad(Cause::Word)),
     };
-    match read_order(form, line) {
+    match read_order(form, words) {
         Some(order) => obey(draft, order),
         None => Err(Refused::Bad(Cause::Number)),
     }

@@ -1,14 +1,14 @@
 //! The `machine` line.
 
 ghost use Rattle.std.specs.Prelude.{◌≡◌, IfOk, drop, true};
-ghost use Rattle.gm_script.specs.Lines.{words_of, word_at};
 ghost use Rattle.gm_script.specs.Numbers.{number_of};
 ghost use Rattle.gm_script.specs.Setups.{is_machine, huge_of, counts_of, is_within, setup_by, setup_of};
 ghost use Rattle.gm_script.specs.Schedules.{IsWithin};
 
 use crate::error::Cause;
 use crate::numbers::read_number;
-use crate::split::{begins, count_words, is_word, word};
+use crate::split::{begins, is_word};
+use crate::words::Words;
 use gm_base::{MOST_CALLERS, MOST_FRAMES, MOST_USER_PAGES, MOST_VCPUS, Setup};
 
 /// The numbers of the line, as they were given.
@@ -22,18 +22,18 @@ pub struct Counts {
 
 /// The setup that the first line that isn't skipped tells, or its first cause.
 #[tactic(auto, unfolding(crate::specs::Setups::setup_of))]
-pub fn read_setup(line: &[u8]) -> Result<Setup, Cause>
-    ensures setup { result ≡ setup_of (words_of line.now) }
+pub fn read_setup(words: &Words<'_>) -> Result<Setup, Cause>
+    ensures setup { result ≡ setup_of words.now }
     ensures within { IfOk result IsWithin }
 {
-    if !is_machine(line) {
+    if !is_machine(words) {
         return Err(Cause::Machine);
     }
-    let huge = match read_huge(word(line, 5)) {
+    let huge = match read_huge(words.word(5)) {
         Some(huge) => huge,
         None => return Err(Cause::Word),
     };
-    let counts = match read_counts(line) {
+    let counts = match read_counts(words) {
         Some(counts) => counts,
         None => return Err(Cause::Number),
     };
@@ -44,16 +44,16 @@ pub fn read_setup(line: &[u8]) -> Result<Setup, Cause>
 }
 
 #[tactic(auto, unfolding(crate::specs::Setups::is_machine))]
-fn is_machine(line: &[u8]) -> bool
-    ensures { result ≡ is_machine (words_of line.now) }
+fn is_machine(words: &Words<'_>) -> bool
+    ensures { result ≡ is_machine words.now }
 {
-    count_words(line) == 6
-        && is_word(word(line, 0), b"machine")
-        && begins(b"frames=", word(line, 1))
-        && begins(b"user=", word(line, 2))
-        && begins(b"vcpus=", word(line, 3))
-        && begins(b"callers=", word(line, 4))
-        && begins(b"huge=", word(line, 5))
+    words.count() == 6
+        && is_word(words.word(0), b"machine")
+        && begins(b"frames=", words.word(1))
+        && begins(b"user=", words.word(2))
+        && begins(b"vcpus=", words.word(3))
+        && begins(b"callers=", words.word(4))
+        && begins(b"huge=", words.word(5))
 }
 
 #[tactic(auto, unfolding(crate::specs::Setups::huge_of))]
@@ -80,13 +80,13 @@ fn number_from(word: &[u8], at: usize) -> Option<u64>
 }
 
 #[tactic(auto, unfolding(crate::specs::Setups::counts_of))]
-fn read_counts(line: &[u8]) -> Option<Counts>
-    ensures { result ≡ counts_of (words_of line.now) }
+fn read_counts(words: &Words<'_>) -> Option<Counts>
+    ensures { result ≡ counts_of words.now }
 {
-    let frames = number_from(word(line, 1), 7)?;
-    let user = number_from(word(line, 2), 5)?;
-    let vcpus = number_from(word(line, 3), 6)?;
-    let callers = number_from(word(line, 4), 8)?;
+    let frames = number_from(words.word(1), 7)?;
+    let user = number_from(words.word(2), 5)?;
+    let vcpus = number_from(words.word(3), 6)?;
+    let callers = number_from(words.word(4), 8)?;
     Some(Counts {
         frames,
         user,

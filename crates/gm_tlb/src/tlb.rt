@@ -47,7 +47,11 @@ impl Tlb {
     pub fn hit(&self, access: &Access) -> Option<Fill>
         ensures { result ≡ latest self.now access.now }
     {
-        latest_hit(&self.fills, *access)
+        let (older, newer) = self.fills.as_slices();
+        match latest_of(newer, access) {
+            Some(fill) => Some(fill),
+            None => latest_of(older, access),
+        }
     }
 
     /// Adds a fill. The oldest goes where 256 are held.
@@ -66,13 +70,13 @@ impl Tlb {
 }
 
 // The last of the fills that serves the access.
-fn latest_hit(fills: &HeapCircularBuffer<Fill>, access: Access) -> Option<Fill>
-    ensures { result ≡ latest (reverse fills.now.items) access }
+fn latest_of(fills: &[Fill], access: &Access) -> Option<Fill>
+    ensures { result ≡ latest (reverse fills.now) access.now }
 {
     for index in 0..fills.len() {
-        let fill = fills.nth_back(index).copied()?;
-        if fill.leaf.serves(access) {
-            return Some(fill);
+        let fill = &fills[fills.len() - 1 - index];
+        if fill.leaf.serves(*access) {
+            return Some(*fill);
         }
     }
     None

@@ -1,9 +1,9 @@
 use Rattle.std.proofs.Common.{◌≡◌, drop}
 use Rattle.gm_script.specs.Lines.{words_of}
-use Rattle.gm_script.proofs.split.trimmed.Given as goal
+use Rattle.gm_script.proofs.words.spaces.Given as goal
 
 abbrev pub invariant-loop-byte : goal.invariant-loop-byte
 invariant-loop-byte l = record {
   place : l.at ≡ l.byte-index;
-  words : words_of (drop l.at l.line) ≡ words_of l.line;
+  words : words_of (drop l.at l.bytes) ≡ words_of l.bytes;
 }
