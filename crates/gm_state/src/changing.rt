@@ -105,10 +105,10 @@ impl State {
         ensures applied { (s : Setup) (m : Memory) → CanApply s self.old m (Region2 region.now) (MoveSlot region.now.slot (page_of region.now.gpa)) → Applied s m (MoveSlot region.now.slot (page_of region.now.gpa)) self.new }
         ensures generation { self.new.slots.generation ≤ self.old.slots.generation + 1 }
     {
-        let slot = self.slots.by_id(region.slot);
+        let before = self.slots.by_id(region.slot);
         let moved = pages_of(region);
         self.slots.apply(region, Change::Move);
-        untrack(self.huge, &mut self.attrs, slot);
+        untrack(self.huge, &mut self.attrs, before);
         track(self.huge, &mut self.attrs, moved);
     }
 }
