@@ -20,8 +20,8 @@ impl State {
         self.alloc
     }
 
-    /// Makes room for the attributes of one call, for one file, and where blocks are allowed for those of one slot. `NoMemory`
-    /// also comes where as many files or folios were made as can be counted.
+    /// Makes room for the attributes of one call, for one file, and where blocks are allowed for those of one slot.
+    /// `NoMemory` also comes where as many files or folios were made as can be counted.
     pub fn reserve_call(&mut self) -> Result<(), NoMemory>
         ensures more { StateHasMoreRoom self.old self.new }
         ensures kinds { OnOk result (1 ≤ self.new.attrs.call_spare) }
