@@ -22,7 +22,8 @@ abbrev pub lies_in_slots : List SlotView → ℕ → Bool
 lies_in_slots [] block = false
 lies_in_slots (s ∷ slots) block = lies_in (slot_span s) block || lies_in_slots slots block
 
--- the state knows whether blocks are allowed, and exactly then a block is tracked that lies wholly in a slot; no other is
+-- the state knows whether blocks are allowed; where they are, exactly the blocks are tracked that lie wholly in a slot,
+-- and else none is
 pub record BlocksStand (allowed huge : Bool) (attrs : AttrsView) (slots : List SlotView) : Type 0 where
   pub huge_is : huge ≡ allowed
   pub tracked : (block : ℕ) → is_tracked attrs block ≡ (allowed && lies_in_slots slots block)

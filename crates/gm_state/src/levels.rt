@@ -73,8 +73,8 @@ impl State {
         }
     }
 
-    // Whether the block of a page, which has this kind, has a page of the other. Where blocks are allowed it lies wholly
-    // in a slot, so it has a flag that tells it.
+    // Whether the block of a page, which has this kind, has a page of the other. Where blocks are allowed it lies
+    // wholly in a slot, so it has a flag that tells it.
     fn is_mixed(&self, page: Page, kind: Kind) -> bool
         requires tracked { self.now.huge ≡ true → is_tracked self.now.attrs (page / BLOCK_PAGES) ≡ true }
         requires kind { kind ≡ kind_at self.now.attrs page }
