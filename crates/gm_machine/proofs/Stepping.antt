@@ -42,8 +42,8 @@ blank_settled k s = record {
 }
 
 counted_roomy : (k : Core) (a : Actor) → IsRoomyFor k a → IsRoomyFor (counted k) a
-counted_roomy k (Vcpu v) r = record { entries = r.entries; short = r.short; leaf = r.leaf; kinds = r.kinds; files = r.files; numbers = r.numbers; serials = r.serials; own = r.own }
-counted_roomy k (Caller c) r = record { entries = r.entries; short = r.short; leaf = r.leaf; kinds = r.kinds; files = r.files; numbers = r.numbers; serials = r.serials; own = r.own }
+counted_roomy k (Vcpu v) r = record { entries = r.entries; short = r.short; leaf = r.leaf; kinds = r.kinds; blocks = r.blocks; files = r.files; numbers = r.numbers; serials = r.serials; own = r.own }
+counted_roomy k (Caller c) r = record { entries = r.entries; short = r.short; leaf = r.leaf; kinds = r.kinds; blocks = r.blocks; files = r.files; numbers = r.numbers; serials = r.serials; own = r.own }
 
 pub blank_room : (k : Core) (room : Flags) → RoomIsKept k room → RoomIsKept (counted k) room
 blank_room k room r = record { room_vcpus = r.room_vcpus; room_callers = r.room_callers; roomy = λ a e. counted_roomy k a (r.roomy a e) }

@@ -46,6 +46,7 @@ user_write_is s old new m a page value t e same lp lw =
       user = user_written s.user old.user m.user_words page a.word value t.user lp lw;
       store = t.store;
       bounded = t.bounded;
+      blocks = t.blocks;
     } in
     subst (λ (x : StateView). StateIs s x (accessed a (User page) m)) (sym same)
     (alike s _ mid (accessed a (User page) m) (record { flat = refl; holds = λ serial. refl; words = λ serial word. refl; user_words = λ p q. write_is (eqb page p && eqb a.word q) a.op value (m.user_words p q) e }) is)
@@ -60,6 +61,7 @@ folio_write_is s old new m a folio value t e same st =
       user = t.user;
       store = st;
       bounded = t.bounded;
+      blocks = t.blocks;
     } in
     subst (λ (x : StateView). StateIs s x (accessed a (InFolio folio) m)) (sym same)
     (alike s _ mid (accessed a (InFolio folio) m) (record { flat = refl; holds = λ serial. refl; words = λ p q. write_is (eqb folio.serial p && eqb a.word q) a.op value (m.stored.words p q) e ∙ flip folio.serial p a.word q value (m.stored.words p q); user_words = λ p q. refl }) is)

@@ -10,6 +10,7 @@ use Rattle.gm_store.specs.Stored.{StoreStands, UseIs, has_triple}
 use Rattle.gm_store.specs.Views.{StoreView}
 use Rattle.std.proofs.Common.{Option, Some, None}
 use Rattle.gm_state.specs.Stand.{IsBounded, Memory, StateIs}
+use Rattle.gm_state.specs.Tracking.{BlocksStand}
 use Rattle.gm_state.specs.Views.{StateView}
 
 -- two memories are the same, point by point
@@ -50,4 +51,5 @@ alike s st m n e t = record {
   user = record { count_is = t.user.count_is; whole = t.user.whole; words_are = λ page word lp lw. t.user.words_are page word lp lw ∙ sym (e.user_words page word) };
   store = subst (λ (f : Flat). StoreStands s.frames st.store (record { flat = f; holds = n.stored.holds; words = n.stored.words })) (sym e.flat) (store_alike s.frames st.store m.stored.flat m.stored.holds n.stored.holds m.stored.words n.stored.words e.holds e.words t.store);
   bounded = subst (λ (f : Flat). AllOf (IsBounded s.user) f.slots) (sym e.flat) t.bounded;
+  blocks = subst (λ (f : Flat). BlocksStand s.huge st.huge st.attrs f.slots) (sym e.flat) t.blocks;
 }

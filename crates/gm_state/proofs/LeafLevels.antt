@@ -1,15 +1,13 @@
 -- How large a leaf may be.
 use Rattle.std.proofs.Common.{◌≡◌, ℕ, ◌+◌, ◌-◌, ◌*◌, ◌/◌, ◌%◌, ◌<◌, ◌≤◌, ◌&&◌, leb, ltb, not, List, [], ◌∷◌, Bool, true, false, Option, Some, None, arith, refl, sym, subst, cond, ◌∙◌, ap, inl, inr, lit<}
 use Rattle.std.specs.Prelude.{MatchBool, IfNone, IfSome, IsTrue, is_some, ◌⊎◌, ◌↔◌}
-use Rattle.std.proofs.lemmas.Bool.{both_ways}
 use Rattle.std.proofs.lemmas.Bool.Decides.{nat_tests}
-use Rattle.gm_attr.specs.Kinds.{AllHave, AttrsView, SomeOther, Tells, kind_at}
-use Rattle.gm_base.specs.Extent.{Extent, holds, meets}
+use Rattle.gm_attr.specs.Kinds.{AllHave, IsMixed, IsUniform, SomeOther, is_tracked, kind_at, lies_in}
+use Rattle.gm_base.specs.Extent.{Extent}
 use Rattle.gm_base.specs.declared.numbers.TheConstants.{BLOCK_PAGES, PAGE_LIMIT}
 use Rattle.gm_base.specs.declared.values.Folio.{Folio}
 use Rattle.gm_base.specs.declared.values.Kind.{Kind}
 use Rattle.gm_base.specs.declared.values.Kind.TheVariants.{Private, Shared}
-use Rattle.gm_base.specs.declared.values.Level.{Level}
 use Rattle.gm_base.specs.declared.values.Level.TheVariants.{Small, Block}
 use Rattle.gm_base.specs.declared.values.Setup.{Setup}
 use Rattle.gm_fault.specs.Levels as fault
@@ -20,13 +18,13 @@ use Rattle.gm_flat.specs.Mappings.{block_of}
 use Rattle.gm_flat.specs.NamedPage.{Named, file_named, folio_named, named, named_by, unmarked}
 use Rattle.gm_flat.specs.RightLevel.{IsConsecutive, IsFrame, IsUserPage, IsWholeBlock, SlotCovers}
 use Rattle.gm_flat.specs.Slots.{lies_over, slot_over, slot_span}
-use Rattle.gm_flat.specs.declared.effect.Backing.{Backing}
-use Rattle.gm_flat.specs.declared.effect.Backing.TheVariants.{User, Folio as InFolio}
+use Rattle.gm_flat.specs.declared.effect.Backing.TheVariants.{User}
 use Rattle.gm_flat.specs.declared.views.SlotView.{SlotView}
 use Rattle.gm_laws.proofs.Kit.{some_same}
 use Rattle.gm_laws.specs.SlotsStand.{AllOf, LiesApart, Pairwise, SlotsStand}
 use Rattle.gm_store.specs.Asked.{HasFrame, IsBlockFrom}
-use Rattle.gm_state.specs.Levels.{IsLevel, LiesUnder}
+use Rattle.gm_state.proofs.Tracked.{tracked_under}
+use Rattle.gm_state.specs.Levels.{LiesUnder}
 use Rattle.gm_state.specs.Stand.{IsBounded, Memory, StateIs}
 use Rattle.gm_state.specs.Views.{StateView}
 
@@ -141,22 +139,20 @@ no_file slot first f u e c = go c.2
     go (inl h) = subst (IsUserPage (c.0 + 0)) nothing (h 0 (lit< tt))
     go (inr h) = subst (IsFrame (c.0 + 0)) nothing (h 0 (lit< tt))
 
--- the tests of the level
+-- the tests of the level, whose block isn't told to be mixed
 
-tests_of : (c s h : Bool) → cond (true && (c && (not (not s) && (true && not h)))) Block Small ≡ Block → (c ≡ true) × (s ≡ true) × (h ≡ false)
-tests_of true true false e = (refl, refl, refl)
-tests_of true true true e = absurd (cc)
-tests_of true false h e = absurd (cc)
-tests_of false s h e = absurd (cc)
+tests_of : (c h : Bool) → cond (true && (c && (true && (true && not h)))) Block Small ≡ Block → (c ≡ true) × (h ≡ false)
+tests_of true false e = (refl, refl)
+tests_of true true e = absurd (cc)
+tests_of false h e = absurd (cc)
 
-of_tests : (c s h : Bool) → c ≡ true → s ≡ true → h ≡ false → cond (true && (c && (not (not s) && (true && not h)))) Block Small ≡ Small → ⊥
-of_tests c s h e g i x = go c s h e g i x
+of_tests : (c h : Bool) → c ≡ true → h ≡ false → cond (true && (c && (true && (true && not h)))) Block Small ≡ Small → ⊥
+of_tests c h e i x = go c h e i x
   where
-    go : (c s h : Bool) → c ≡ true → s ≡ true → h ≡ false → cond (true && (c && (not (not s) && (true && not h)))) Block Small ≡ Small → ⊥
-    go true true false e g i x = absurd (cc)
-    go true true true e g i x = absurd (cc)
-    go true false h e g i x = absurd (cc)
-    go false s h e g i x = absurd (cc)
+    go : (c h : Bool) → c ≡ true → h ≡ false → cond (true && (c && (true && (true && not h)))) Block Small ≡ Small → ⊥
+    go true false e i x = absurd (cc)
+    go true true e i x = absurd (cc)
+    go false h e i x = absurd (cc)
 
 and_swap : (x y : Bool) → (x && y) ≡ (y && x)
 and_swap true true = refl
@@ -178,52 +174,78 @@ covers_it block slot o e c = let d : SlotCovers block (Some slot) = subst (SlotC
 bounds_of : (a b c d : ℕ) → (leb a b && leb c d) ≡ true → (a ≤ b) × (c ≤ d)
 bounds_of a b c d h = grind (arith, nat_tests)
 
-all_of : (b : Bool) (K : ℕ → Kind) (e : Extent) (kind : Kind) → b ≡ true → MatchBool b (AllHave K e kind) (SomeOther K e kind) → AllHave K e kind
-all_of true K e kind h m = m
-all_of false K e kind h m = absurd (cc)
+-- whether the block has a page of another kind
 
-is_all : (b : Bool) (K : ℕ → Kind) (e : Extent) (kind : Kind) → ((h : ℕ) → holds e h ≡ true → K h ≡ kind) → MatchBool b (AllHave K e kind) (SomeOther K e kind) → b ≡ true
-is_all true K e kind a m = refl
-is_all false K e kind a m = absurd (m.2 (a m.0 m.1))
+abbrev pub IsToldMixed : Bool → (ℕ → Kind) → ℕ → Kind → Type 0
+IsToldMixed mixed K page kind = MatchBool mixed (SomeOther K (block_of page) kind) (AllHave K (block_of page) kind)
 
--- what the level is judged by: the state stands, no two slots meet, the slot over the page isn't marked, the page's kind, and
--- whether all of its block have it
-pub record LevelAsked (s : Setup) (st : StateView) (m : Memory) (slot : SlotView) (page : ℕ) (kind : Kind) (same : Bool) : Type 0 where
+never_both : Private ≡ Shared → ⊥
+never_both e = cc
+
+-- as its flag tells it
+pub by_flag : (mixed : Bool) (K : ℕ → Kind) (page : ℕ) (kind : Kind) → kind ≡ K page → MatchBool mixed (IsMixed K (page / BLOCK_PAGES)) (IsUniform K (page / BLOCK_PAGES)) → IsToldMixed mixed K page kind
+by_flag false K page kind e u = λ h inside. u h page inside (in_own page) ∙ sym e
+  where
+    in_own : (page : ℕ) → (leb (512 * (page / 512)) page && ltb page (512 * (page / 512) + 512)) ≡ true
+    in_own page = grind (arith, nat_tests)
+by_flag true K page Private e m = (m.1, m.3, λ p. never_both (sym p ∙ m.5))
+by_flag true K page Shared e m = (m.0, m.2, λ p. never_both (sym m.4 ∙ p))
+
+-- as its pages tell it
+pub by_pages : (same : Bool) (K : ℕ → Kind) (page : ℕ) (kind : Kind) → MatchBool same (AllHave K (block_of page) kind) (SomeOther K (block_of page) kind) → IsToldMixed (not same) K page kind
+by_pages true K page kind m = m
+by_pages false K page kind m = m
+
+pub told_mixed : (mixed : Bool) (K : ℕ → Kind) (page : ℕ) (kind : Kind) → mixed ≡ true → IsToldMixed mixed K page kind → SomeOther K (block_of page) kind
+told_mixed true K page kind e m = m
+told_mixed false K page kind e m = absurd (cc)
+
+pub told_same : (mixed : Bool) (K : ℕ → Kind) (page : ℕ) (kind : Kind) → mixed ≡ false → IsToldMixed mixed K page kind → AllHave K (block_of page) kind
+told_same true K page kind e m = absurd (cc)
+told_same false K page kind e m = m
+
+-- what the level is judged by: the state stands, no two slots meet, the slot over the page isn't marked
+pub record LevelAsked (s : Setup) (st : StateView) (m : Memory) (slot : SlotView) (page : ℕ) : Type 0 where
   pub is : StateIs s st m
   pub over : slot_over st.slots.slots page ≡ Some slot
   pub unmarked : slot.invalid ≡ false
-  pub kind_is : kind ≡ attr_of page m.stored.flat.attrs
-  pub told : MatchBool same (AllHave (kind_at st.attrs) (block_of page) kind) (SomeOther (kind_at st.attrs) (block_of page) kind)
 
 over_flat : (s : Setup) (st : StateView) (m : Memory) (slot : SlotView) (page : ℕ) → StateIs s st m → slot_over st.slots.slots page ≡ Some slot → slot_over m.stored.flat.slots page ≡ Some slot
 over_flat s st m slot page i o = subst (λ (l : List SlotView). slot_over l page ≡ Some slot) i.slots_are o
 
-pub not_a_block : (s : Setup) (st : StateView) (m : Memory) (slot : SlotView) (page : ℕ) (kind : Kind) (same : Bool) (range : Option Extent) → LevelAsked s st m slot page kind same → fault.level_of true slot page (not same) true range ≡ Small → IsWholeBlock true page m.stored.flat range → ⊥
-not_a_block s st m slot page kind same range a e w =
-    of_tests (fault.contains (slot_span slot) (block_of page)) same (fault.hull_meets range (block_of page))
+pub not_a_block : (s : Setup) (st : StateView) (m : Memory) (slot : SlotView) (page : ℕ) (range : Option Extent) → LevelAsked s st m slot page → fault.level_of true slot page false true range ≡ Small → IsWholeBlock true page m.stored.flat range → ⊥
+not_a_block s st m slot page range a e w =
+    of_tests (fault.contains (slot_span slot) (block_of page)) (fault.hull_meets range (block_of page))
     (covers_it (block_of page) slot (slot_over m.stored.flat.slots page) (over_flat s st m slot page a.is a.over) w.one_slot)
-    (is_all same (kind_at st.attrs) (block_of page) kind (λ h c. a.is.attrs_are h ∙ (w.one_kind h c ∙ sym a.kind_is)) a.told)
     (meets_either_way range (block_of page) ∙ w.no_invalidation)
     e
 
 -- the tests of a block passed
-pub record Passed (st : StateView) (slot : SlotView) (page : ℕ) (kind : Kind) (range : Option Extent) : Type 0 where
+pub record Passed (slot : SlotView) (page : ℕ) (range : Option Extent) : Type 0 where
+  pub covers : lies_in (slot_span slot) (page / BLOCK_PAGES) ≡ true
   pub from : slot.base ≤ (block_of page).lo
   pub to : (block_of page).hi ≤ slot.base + slot.pages
-  pub kinds : AllHave (kind_at st.attrs) (block_of page) kind
   pub unmet : hull_meets (block_of page) range ≡ false
 
-pub passed : (s : Setup) (st : StateView) (m : Memory) (slot : SlotView) (page : ℕ) (kind : Kind) (same : Bool) (range : Option Extent) → MatchBool same (AllHave (kind_at st.attrs) (block_of page) kind) (SomeOther (kind_at st.attrs) (block_of page) kind) → fault.level_of true slot page (not same) true range ≡ Block → Passed st slot page kind range
-passed s st m slot page kind same range told e =
-    let t = tests_of (fault.contains (slot_span slot) (block_of page)) same (fault.hull_meets range (block_of page)) e in
+pub passed : (slot : SlotView) (page : ℕ) (range : Option Extent) → fault.level_of true slot page false true range ≡ Block → Passed slot page range
+passed slot page range e =
+    let t = tests_of (fault.contains (slot_span slot) (block_of page)) (fault.hull_meets range (block_of page)) e in
     let b = bounds_of slot.base (block_of page).lo (block_of page).hi (slot.base + slot.pages) t.0 in
-    record { from = b.0; to = b.1; kinds = all_of same (kind_at st.attrs) (block_of page) kind t.1 told; unmet = sym (meets_either_way range (block_of page)) ∙ t.2 }
+    record { covers = t.0; from = b.0; to = b.1; unmet = sym (meets_either_way range (block_of page)) ∙ t.1 }
 
-pub lies_under : (s : Setup) (st : StateView) (m : Memory) (slot : SlotView) (page : ℕ) (kind : Kind) (same : Bool) (range : Option Extent) → LevelAsked s st m slot page kind same → SlotsStand m.stored.flat → Passed st slot page kind range → LiesUnder slot kind (block_of page).lo m.stored.flat
-lies_under s st m slot page kind same range a stand p = record {
+-- so its flag is there, where blocks have flags
+pub has_flag : (s : Setup) (st : StateView) (m : Memory) (slot : SlotView) (page : ℕ) (range : Option Extent) → StateIs s st m → slot_over st.slots.slots page ≡ Some slot → fault.level_of true slot page false true range ≡ Block → st.huge ≡ true → is_tracked st.attrs (page / BLOCK_PAGES) ≡ true
+has_flag s st m slot page range i o e h = tracked_under s.huge st.huge st.attrs m.stored.flat.slots page (page / BLOCK_PAGES) slot i.blocks h (over_flat s st m slot page i o) (passed slot page range e).covers
+
+-- a mixed block is none
+pub mixed_no_block : (s : Setup) (st : StateView) (m : Memory) (page : ℕ) (kind : Kind) (range : Option Extent) → StateIs s st m → kind ≡ attr_of page m.stored.flat.attrs → SomeOther (kind_at st.attrs) (block_of page) kind → IsWholeBlock true page m.stored.flat range → ⊥
+mixed_no_block s st m page kind range i k other w = other.2 (i.attrs_are other.0 ∙ (w.one_kind other.0 other.1 ∙ sym k))
+
+pub lies_under : (s : Setup) (st : StateView) (m : Memory) (slot : SlotView) (page : ℕ) (kind : Kind) (range : Option Extent) → LevelAsked s st m slot page → AllHave (kind_at st.attrs) (block_of page) kind → SlotsStand m.stored.flat → Passed slot page range → LiesUnder slot kind (block_of page).lo m.stored.flat
+lies_under s st m slot page kind range a kinds stand p = record {
   unmarked = a.unmarked;
   over = λ k lt. all_its_pages page ((block_of page).lo + k) slot m.stored.flat.slots stand.lie_apart (over_flat s st m slot page a.is a.over) (inside (block_of page).lo k slot.base (slot.base + slot.pages) p.from p.to lt);
-  kinds = λ k lt. sym (a.is.attrs_are ((block_of page).lo + k)) ∙ p.kinds ((block_of page).lo + k) (held (block_of page).lo k lt);
+  kinds = λ k lt. sym (a.is.attrs_are ((block_of page).lo + k)) ∙ kinds ((block_of page).lo + k) (held (block_of page).lo k lt);
 }
   where
     inside : (a k b e : ℕ) → b ≤ a → a + 512 ≤ e → k < 512 → (leb b (a + k) && ltb (a + k) e) ≡ true
@@ -232,11 +254,11 @@ lies_under s st m slot page kind same range a stand p = record {
     held : (a k : ℕ) → k < 512 → (leb a (a + k) && ltb (a + k) (a + 512)) ≡ true
     held a k lt = grind (arith, nat_tests)
 
-pub block_or_page : (s : Setup) (st : StateView) (m : Memory) (slot : SlotView) (page : ℕ) (kind : Kind) (same : Bool) (range : Option Extent) → LevelAsked s st m slot page kind same → SlotsStand m.stored.flat → Passed st slot page kind range → IsConsecutive (from_page (block_of page).lo) m.stored.flat → IsWholeBlock true page m.stored.flat range
-block_or_page s st m slot page kind same range a stand p c = record {
+pub block_or_page : (s : Setup) (st : StateView) (m : Memory) (slot : SlotView) (page : ℕ) (kind : Kind) (range : Option Extent) → LevelAsked s st m slot page → kind ≡ attr_of page m.stored.flat.attrs → AllHave (kind_at st.attrs) (block_of page) kind → SlotsStand m.stored.flat → Passed slot page range → IsConsecutive (from_page (block_of page).lo) m.stored.flat → IsWholeBlock true page m.stored.flat range
+block_or_page s st m slot page kind range a k kinds stand p c = record {
   is_huge = refl;
   one_slot = subst (SlotCovers (block_of page)) (sym (over_flat s st m slot page a.is a.over)) (p.from, p.to);
-  one_kind = λ h held. sym (a.is.attrs_are h) ∙ (p.kinds h held ∙ a.kind_is);
+  one_kind = λ h held. sym (a.is.attrs_are h) ∙ (kinds h held ∙ k);
   consecutive = c;
   no_invalidation = p.unmet;
 }
@@ -251,18 +273,12 @@ private_exact slot file first f None u e le h n = (λ y. absurd (cc), λ c. absu
 private_exact slot file first f (Some frame) u e le h n = (λ y. private_block slot file first frame f u e le h, λ c. refl)
 
 -- as it is asked
-pub asked : (s : Setup) (st : StateView) (m : Memory) (slot : SlotView) (page : ℕ) (kind : Kind) (same : Bool) (v : AttrsView) (e : Extent) → StateIs s st m → slot_over st.slots.slots page ≡ Some slot → slot.invalid ≡ false → kind ≡ attr_of page m.stored.flat.attrs → v ≡ st.attrs → e ≡ block_of page → MatchBool same (AllHave (kind_at v) e kind) (SomeOther (kind_at v) e kind) → LevelAsked s st m slot page kind same
-asked s st m slot page kind same v e i o u k h g told = record {
-  is = i;
-  over = o;
-  unmarked = u;
-  kind_is = k;
-  told = subst (λ (x : AttrsView). MatchBool same (AllHave (kind_at x) (block_of page) kind) (SomeOther (kind_at x) (block_of page) kind)) h (subst (λ (x : Extent). MatchBool same (AllHave (kind_at v) x kind) (SomeOther (kind_at v) x kind)) g told);
-}
+pub asked : (s : Setup) (st : StateView) (m : Memory) (slot : SlotView) (page : ℕ) → StateIs s st m → slot_over st.slots.slots page ≡ Some slot → slot.invalid ≡ false → LevelAsked s st m slot page
+asked s st m slot page i o u = record { is = i; over = o; unmarked = u }
 
 -- what the frames tell of the block tells its level
-pub judged_whole : (s : Setup) (st : StateView) (m : Memory) (slot : SlotView) (page : ℕ) (kind : Kind) (same : Bool) (range : Option Extent) (first : ℕ) (whole : Bool) → LevelAsked s st m slot page kind same → SlotsStand m.stored.flat → fault.level_of true slot page (not same) true range ≡ Block → first ≡ (block_of page).lo → (LiesUnder slot kind first m.stored.flat → IsTrue whole ↔ IsConsecutive (from_page first) m.stored.flat) → IsTrue whole ↔ IsWholeBlock true page m.stored.flat range
-judged_whole s st m slot page kind same range first whole a stand e f h =
-    let p = passed s st m slot page kind same range a.told e in
-    let g : IsTrue whole ↔ IsConsecutive (from_page (block_of page).lo) m.stored.flat = subst (λ (x : ℕ). LiesUnder slot kind x m.stored.flat → IsTrue whole ↔ IsConsecutive (from_page x) m.stored.flat) f h (lies_under s st m slot page kind same range a stand p) in
-    (λ y. block_or_page s st m slot page kind same range a stand p (g.0 y), λ w. g.1 w.consecutive)
+pub judged_whole : (s : Setup) (st : StateView) (m : Memory) (slot : SlotView) (page : ℕ) (kind : Kind) (range : Option Extent) (first : ℕ) (whole : Bool) → LevelAsked s st m slot page → kind ≡ attr_of page m.stored.flat.attrs → AllHave (kind_at st.attrs) (block_of page) kind → SlotsStand m.stored.flat → fault.level_of true slot page false true range ≡ Block → first ≡ (block_of page).lo → (LiesUnder slot kind first m.stored.flat → IsTrue whole ↔ IsConsecutive (from_page first) m.stored.flat) → IsTrue whole ↔ IsWholeBlock true page m.stored.flat range
+judged_whole s st m slot page kind range first whole a k kinds stand e f h =
+    let p = passed slot page range e in
+    let g : IsTrue whole ↔ IsConsecutive (from_page (block_of page).lo) m.stored.flat = subst (λ (x : ℕ). LiesUnder slot kind x m.stored.flat → IsTrue whole ↔ IsConsecutive (from_page x) m.stored.flat) f h (lies_under s st m slot page kind range a kinds stand p) in
+    (λ y. block_or_page s st m slot page kind range a k kinds stand p (g.0 y), λ w. g.1 w.consecutive)

@@ -9,3 +9,4 @@ pub mod Promises
 pub mod Rooming
 pub mod SlotMarks
 pub mod Storing
+pub mod Tracked

@@ -7,6 +7,7 @@ use Rattle.gm_radix.specs.Entries.{count_within}
 use Rattle.gm_store.specs.Rooms.{RoomKept, RoomsKept, with_room}
 use Rattle.gm_store.specs.Stored.{RisesIn, Stored, StoreStands}
 use Rattle.gm_store.specs.Views.{StoreView, bind_room, file_in, page_room}
+use Rattle.gm_state.proofs.Tracked.{blocks_same}
 use Rattle.gm_state.specs.HasMoreRoom.{StateHasMoreRoom}
 use Rattle.gm_state.specs.Views.{StateView}
 
@@ -49,6 +50,7 @@ same_state st = record {
   store_is = refl;
   freed_is = refl;
   calls = omega arith;
+  blocks = omega arith;
   files = omega arith;
   rooms = same_rooms st.store.files;
   freed = omega arith;
@@ -64,29 +66,40 @@ more_over x y z h g =
     let d = g.files in
     let e = h.freed in
     let f = g.freed in
+    let i = h.blocks in
+    let j = g.blocks in
     record {
       others = g.others ∙ ap (λ (w : StateView). record w { attrs = z.attrs; store = z.store; freed = z.freed }) h.others;
-      attrs_are = g.attrs_are ∙ ap (λ (w : AttrsView). record w { call_spare = z.attrs.call_spare }) h.attrs_are;
+      attrs_are = g.attrs_are ∙ ap (λ (w : AttrsView). record w { call_spare = z.attrs.call_spare; block_spare = z.attrs.block_spare }) h.attrs_are;
       store_is = g.store_is ∙ ap (λ (w : StoreView). record w { files = z.store.files; spare = z.store.spare }) h.store_is;
       freed_is = g.freed_is ∙ ap (λ (w : FolioList). record w { room = z.freed.room }) h.freed_is;
       calls = omega arith;
+      blocks = omega arith;
       files = omega arith;
       rooms = rooms_over x.store.files y.store.files z.store.files h.rooms g.rooms;
       freed = omega arith;
       stands = λ s m k. g.stands s m (h.stands s m k);
     }
 
-pub attrs_more : (st : StateView) (a : AttrsView) → a ≡ record st.attrs { call_spare = a.call_spare } → st.attrs.call_spare ≤ a.call_spare → StateHasMoreRoom st (record st { attrs = a })
-attrs_more st a same le = record {
+pub attrs_more : (st : StateView) (a : AttrsView) → a ≡ record st.attrs { call_spare = a.call_spare; block_spare = a.block_spare } → st.attrs.call_spare ≤ a.call_spare → st.attrs.block_spare ≤ a.block_spare → StateHasMoreRoom st (record st { attrs = a })
+attrs_more st a same le more = record {
   others = refl;
   attrs_are = same;
   store_is = refl;
   freed_is = refl;
   calls = le;
+  blocks = more;
   files = omega arith;
   rooms = same_rooms st.store.files;
   freed = omega arith;
-  stands = λ s m h. record { slots_are = h.slots_are; attrs_are = subst (λ (x : AttrsView). Tells x m.stored.flat.attrs) (sym same) h.attrs_are; user = h.user; store = h.store; bounded = h.bounded };
+  stands = λ s m h. record {
+    slots_are = h.slots_are;
+    attrs_are = subst (λ (x : AttrsView). Tells x m.stored.flat.attrs) (sym same) h.attrs_are;
+    user = h.user;
+    store = h.store;
+    bounded = h.bounded;
+    blocks = blocks_same s.huge st.huge st.attrs a m.stored.flat.slots m.stored.flat.slots (ap (λ (x : AttrsView). x.tracked) same) (λ block. refl) h.blocks;
+  };
 }
 
 pub store_more : (st : StateView) (x : StoreView) → x ≡ record st.store { files = x.files; spare = x.spare } → RoomsKept st.store.files x.files → st.store.spare ≤ x.spare → ((frames : ℕ) (k : Stored) → StoreStands frames st.store k → StoreStands frames x k) → StateHasMoreRoom st (record st { store = x })
@@ -96,10 +109,11 @@ store_more st x same rooms le stands = record {
   store_is = same;
   freed_is = refl;
   calls = omega arith;
+  blocks = omega arith;
   files = le;
   rooms = rooms;
   freed = omega arith;
-  stands = λ s m h. record { slots_are = h.slots_are; attrs_are = h.attrs_are; user = h.user; store = stands s.frames m.stored h.store; bounded = h.bounded };
+  stands = λ s m h. record { slots_are = h.slots_are; attrs_are = h.attrs_are; user = h.user; store = stands s.frames m.stored h.store; bounded = h.bounded; blocks = h.blocks };
 }
 
 pub freed_more : (st : StateView) (f : FolioList) → f ≡ record st.freed { room = f.room } → st.freed.room ≤ f.room → StateHasMoreRoom st (record st { freed = f })
@@ -109,10 +123,11 @@ freed_more st f same le = record {
   store_is = refl;
   freed_is = same;
   calls = omega arith;
+  blocks = omega arith;
   files = omega arith;
   rooms = same_rooms st.store.files;
   freed = le;
-  stands = λ s m h. record { slots_are = h.slots_are; attrs_are = h.attrs_are; user = h.user; store = h.store; bounded = h.bounded };
+  stands = λ s m h. record { slots_are = h.slots_are; attrs_are = h.attrs_are; user = h.user; store = h.store; bounded = h.bounded; blocks = h.blocks };
 }
 
 -- all that is cached of a file is counted

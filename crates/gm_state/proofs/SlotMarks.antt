@@ -1,5 +1,5 @@
 -- A slot is marked, and the state stands for the memory after it. What is marked exists.
-use Rattle.std.proofs.Common.{◌≡◌, ℕ, ◌+◌, ◌<◌, ◌≤◌, Bool, true, false, List, [], ◌∷◌, Option, Some, None, Ok, Err, IsSome, subst, sym, ◌∙◌, ap, refl, cond, eqb}
+use Rattle.std.proofs.Common.{◌≡◌, ℕ, Bool, true, false, List, [], ◌∷◌, Option, Some, None, Ok, Err, IsSome, subst, sym, ap, refl, cond, eqb}
 use Rattle.gm_base.specs.declared.calls.Ioctl.{Ioctl}
 use Rattle.gm_base.specs.declared.calls.Ioctl.TheVariants.{Region2}
 use Rattle.gm_base.specs.declared.calls.Region.{Region}
@@ -18,6 +18,7 @@ use Rattle.gm_slots.specs.Changes.{change_by}
 use Rattle.gm_slots.specs.declared.change.Change.TheVariants as change
 use Rattle.gm_laws.proofs.Kit.{some_same}
 use Rattle.gm_state.proofs.Promises.{promises}
+use Rattle.gm_state.proofs.Tracked.{blocks_marked}
 use Rattle.gm_state.specs.Marked.{mark_slot, with_mark}
 use Rattle.gm_state.specs.Promised.{Makes, Promised}
 use Rattle.gm_state.specs.Stand.{IsBounded, Memory, StateIs}
@@ -40,6 +41,7 @@ mark_stands s st m slot t = record {
   user = t.user;
   store = slot_marked s.frames st.store m.stored slot t.store;
   bounded = all_bounded s.user slot m.stored.flat.slots t.bounded;
+  blocks = blocks_marked s.huge st.huge st.attrs slot m.stored.flat.slots t.blocks;
 }
 
 -- a slot that a deletion or a move is about exists
@@ -53,7 +55,7 @@ deletes r slots None e = absurd (never (eqb r.size 0) (meets_slot (page_of r.gpa
     never false true e = cc
     never false false e = cc
 
-moves : (r : Region) (slots : List SlotView) (o : Option SlotView) → change_by r slots o ≡ Ok change.Move → IsSome o
+pub moves : (r : Region) (slots : List SlotView) (o : Option SlotView) → change_by r slots o ≡ Ok change.Move → IsSome o
 moves r slots (Some t) e = refl
 moves r slots None e = absurd (never (eqb r.size 0) (meets_slot (page_of r.gpa) (page_of r.size) slots) e)
   where

@@ -10,17 +10,18 @@ use Rattle.gm_flat.specs.Effects.{Addition, with_folios}
 use Rattle.gm_flat.specs.FlatState.{Flat, FileState, FolioState, added, file_by_number, in_use, is_live}
 use Rattle.gm_flat.specs.RightLives.{UsesFirst, frame_of}
 use Rattle.gm_laws.specs.SlotsStand.{AllOf}
-use Rattle.gm_pool.specs.Pools.{Frames, IsLive, use_of}
+use Rattle.gm_pool.specs.Pools.{IsLive, use_of}
 use Rattle.gm_pool.specs.declared.uses.Use.{Use}
 use Rattle.gm_store.proofs.Folios.{unadded}
 use Rattle.gm_store.specs.Added.{FirstUsed, addition_of}
 use Rattle.gm_store.specs.declared.first_use.Used.{Used}
 use Rattle.gm_state.specs.Holding.{FirstHeld}
-use Rattle.gm_store.specs.Frees.{hold_dropped, is_last_hold}
+use Rattle.gm_store.specs.Frees.{hold_dropped}
 use Rattle.gm_store.specs.Stored.{HasUse, IsState, StoreStands, Stored, UseIs, has_triple, held_more, with_addition}
 use Rattle.gm_store.specs.Views.{StoreView}
 use Rattle.std.specs.Prelude.{IsSomeAnd}
 use Rattle.gm_state.specs.Stand.{IsBounded, Memory, StateIs}
+use Rattle.gm_state.specs.Tracking.{BlocksStand}
 use Rattle.gm_state.specs.Views.{StateView}
 
 -- a file that is seen is in use
@@ -51,6 +52,7 @@ with_store s st next m k e a t i = record {
   user = i.user;
   store = t;
   bounded = subst (AllOf (IsBounded s.user)) (sym e) i.bounded;
+  blocks = subst (BlocksStand s.huge st.huge st.attrs) (sym e) i.blocks;
 }
 
 pub held_state : (s : Setup) (st : StateView) (next : StoreView) (m : Memory) (serial : ℕ) → StoreStands s.frames next (held_more serial m.stored) → StateIs s st m → StateIs s (record st { store = next }) (record m { stored = held_more serial m.stored })

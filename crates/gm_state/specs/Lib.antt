@@ -7,4 +7,5 @@ pub mod Marked
 pub mod Paging
 pub mod Promised
 pub mod Stand
+pub mod Tracking
 pub mod Views

@@ -13,6 +13,7 @@ use Rattle.gm_store.specs.Frees.{FreesDue, with_frees}
 use Rattle.gm_store.specs.Stored.{Stored, StoreStands, applied, nothing_stored}
 use Rattle.gm_words.specs.Banks.{page_in, word_in}
 use Rattle.gm_base.specs.declared.values.Folio.{Folio}
+use Rattle.gm_state.specs.Tracking.{BlocksStand}
 use Rattle.gm_state.specs.Views.{StateView}
 
 -- a flat state with the holds and the words of its folios, and the words of user memory by page and number
@@ -46,6 +47,7 @@ pub record StateIs (s : Setup) (st : StateView) (m : Memory) : Type 0 where
   pub user : UserStands s.user st.user m.user_words
   pub store : StoreStands s.frames st.store m.stored
   pub bounded : AllOf (IsBounded s.user) m.stored.flat.slots
+  pub blocks : BlocksStand s.huge st.huge st.attrs m.stored.flat.slots
 
 -- after an effect and the frees that follow it
 abbrev pub after_effect : Effect → List (ℕ × Folio) → Memory → Memory

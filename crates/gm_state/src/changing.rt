@@ -7,11 +7,12 @@ ghost use Rattle.gm_base.specs.declared.values.Setup.{Setup};
 ghost use Rattle.gm_flat.specs.Calls.{new_slot, page_of, wants_file};
 ghost use Rattle.gm_flat.specs.RightLook.{file_of};
 ghost use Rattle.gm_flat.specs.declared.effect.Effect.TheVariants.{Attr, Cut, Move as MoveSlot, NoSlot, Shut, Word};
-ghost use Rattle.gm_state.specs.Applying.{CanApply, HasRoomFor};
+ghost use Rattle.gm_state.specs.Applying.{CanApply, HasBlockRoom, HasRoomFor};
 ghost use Rattle.gm_state.specs.Stand.{Applied, Memory};
 
 use crate::flags::is_file_backed;
 use crate::state::State;
+use crate::tracking::{pages_of, track, untrack};
 use gm_base::{Ioctl, PAGE_BYTES, Region};
 use gm_flat::{Effect, SlotView};
 use gm_slots::Change;
@@ -54,12 +55,12 @@ impl State {
         match effect {
             Effect::Slot { .. } => self.make_slot(region),
             Effect::NoSlot { .. } => self.drop_slot(region),
-            Effect::Move { .. } => self.slots.apply(region, Change::Move),
+            Effect::Move { .. } => self.move_slot(region),
             _ => unreachable!(),
         }
     }
 
-    // Makes the slot of a region, and binds its file.
+    // Makes the slot of a region, tracks its blocks, and binds its file.
     fn make_slot(&mut self, region: &Region)
         requires can { (s : Setup) × (m : Memory) × CanApply s self.old m (Region2 region.now) (new_slot region.now (wants_file region.now)) }
         requires generation { self.old.slots.generation < COUNTER_LIMIT }
@@ -68,7 +69,9 @@ impl State {
         ensures applied { (s : Setup) (m : Memory) → CanApply s self.old m (Region2 region.now) (new_slot region.now (wants_file region.now)) → Applied s m (new_slot region.now (wants_file region.now)) self.new }
         ensures generation { self.new.slots.generation ≤ self.old.slots.generation + 1 }
     {
+        let made = pages_of(region);
         self.slots.apply(region, Change::Make);
+        track(self.huge, &mut self.attrs, made);
         if is_file_backed(region.flags) {
             let lo = region.offset / PAGE_BYTES;
             self.store
@@ -76,7 +79,7 @@ impl State {
         }
     }
 
-    // Deletes the slot of a region, and ends its binding.
+    // Deletes the slot of a region, tracks its blocks no more, and ends its binding.
     fn drop_slot(&mut self, region: &Region)
         requires can { (s : Setup) × (m : Memory) × CanApply s self.old m (Region2 region.now) (NoSlot region.now.slot) }
         requires generation { self.old.slots.generation < COUNTER_LIMIT }
@@ -84,11 +87,29 @@ impl State {
         ensures applied { (s : Setup) (m : Memory) → CanApply s self.old m (Region2 region.now) (NoSlot region.now.slot) → Applied s m (NoSlot region.now.slot) self.new }
         ensures generation { self.new.slots.generation ≤ self.old.slots.generation + 1 }
     {
-        let file = file_of(self.slots.by_id(region.slot));
+        let slot = self.slots.by_id(region.slot);
+        let file = file_of(slot);
         self.slots.apply(region, Change::Delete);
+        untrack(self.huge, &mut self.attrs, slot);
         if let Some(file) = file {
             self.store.unbind(file, region.slot);
         }
+    }
+
+    // Moves the slot of a region. Its blocks are other ones from then on, with flags made anew.
+    fn move_slot(&mut self, region: &Region)
+        requires can { (s : Setup) × (m : Memory) × CanApply s self.old m (Region2 region.now) (MoveSlot region.now.slot (page_of region.now.gpa)) }
+        requires generation { self.old.slots.generation < COUNTER_LIMIT }
+        requires room { HasBlockRoom self.old }
+        requires cleared { self.old.freed.list ≡ [] }
+        ensures applied { (s : Setup) (m : Memory) → CanApply s self.old m (Region2 region.now) (MoveSlot region.now.slot (page_of region.now.gpa)) → Applied s m (MoveSlot region.now.slot (page_of region.now.gpa)) self.new }
+        ensures generation { self.new.slots.generation ≤ self.old.slots.generation + 1 }
+    {
+        let before = self.slots.by_id(region.slot);
+        let moved = pages_of(region);
+        self.slots.apply(region, Change::Move);
+        untrack(self.huge, &mut self.attrs, before);
+        track(self.huge, &mut self.attrs, moved);
     }
 }
 

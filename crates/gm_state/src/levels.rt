@@ -1,6 +1,7 @@
 //! How large a leaf may be.
 
-ghost use Rattle.std.specs.Prelude.{◌≡◌, ◌+◌, ◌*◌, ◌/◌, ◌≤◌, ◌%◌, Some, false, true, IsTrue, ◌↔◌};
+ghost use Rattle.std.specs.Prelude.{◌≡◌, ◌+◌, ◌*◌, ◌/◌, ◌≤◌, ◌%◌, Some, false, true, IsTrue, MatchBool, ◌↔◌};
+ghost use Rattle.gm_attr.specs.Kinds.{AllHave, SomeOther, is_tracked, kind_at};
 ghost use Rattle.gm_base.specs.declared.numbers.TheConstants.{BLOCK_PAGES, PAGE_LIMIT};
 ghost use Rattle.gm_base.specs.declared.values.Setup.{Setup};
 ghost use Rattle.gm_flat.specs.Mappings.{block_of};
@@ -55,18 +56,34 @@ impl State {
         requires unmarked { slot.invalid ≡ false }
         ensures { (s : Setup) (m : Memory) → StateIs s self.now m → SlotsStand m.stored.flat → IsLevel result true page m.stored.flat range }
     {
-        let block = block_of(page);
-        let kind = self.kind(page);
-        let mixed = !self.attrs.same(block, kind);
-        match level(true, &slot, page, mixed, true, range) {
+        match level(true, &slot, page, false, true, range) {
             Level::Small => Level::Small,
             Level::Block => {
+                let kind = self.kind(page);
+                if self.is_mixed(page, kind) {
+                    return Level::Small;
+                }
+                let block = block_of(page);
                 if self.is_whole(slot, kind, block.lo()) {
                     Level::Block
                 } else {
                     Level::Small
                 }
             }
+        }
+    }
+
+    // Whether the block of a page, which has this kind, has a page of the other. Where blocks are allowed it lies
+    // wholly in a slot, so it has a flag that tells it.
+    fn is_mixed(&self, page: Page, kind: Kind) -> bool
+        requires tracked { self.now.huge ≡ true → is_tracked self.now.attrs (page / BLOCK_PAGES) ≡ true }
+        requires kind { kind ≡ kind_at self.now.attrs page }
+        ensures { MatchBool result (SomeOther (kind_at self.now.attrs) (block_of page) kind) (AllHave (kind_at self.now.attrs) (block_of page) kind) }
+    {
+        if self.huge {
+            self.attrs.mixed(page.number() / BLOCK_PAGES)
+        } else {
+            !self.attrs.same(block_of(page), kind)
         }
     }
 

@@ -12,6 +12,7 @@ mod marking;
 mod paging;
 mod reserving;
 mod state;
+mod tracking;
 
 pub use laws::plans_keep_their_promises;
 pub use state::State;

@@ -3,12 +3,14 @@
 ghost use Rattle.std.specs.Prelude.{◌≡◌, ◌^◌, ◌-◌, ◌<◌, ◌≤◌, IfOk, OnOk, length};
 ghost use Rattle.gm_base.specs.declared.numbers.TheConstants.{BLOCK_PAGES, COUNTER_LIMIT};
 ghost use Rattle.gm_base.specs.declared.values.Setup.{Setup};
+ghost use Rattle.gm_state.specs.Applying.{HasBlockRoom};
 ghost use Rattle.gm_state.specs.HasMoreRoom.{StateHasMoreRoom};
 ghost use Rattle.gm_state.specs.Stand.{Memory, StateIs};
 ghost use Rattle.gm_store.specs.Rooms.{HasRoom};
 ghost use Rattle.gm_store.specs.Views.{file_in, pairs_in};
 
 use crate::state::State;
+use crate::tracking::reserve_blocks;
 use gm_base::{BLOCK_PAGES, COUNTER_LIMIT, NoMemory};
 use std::alloc::Global;
 
@@ -18,16 +20,18 @@ impl State {
         self.alloc
     }
 
-    /// Makes room for the attributes of one call and for one file. `NoMemory` also comes where as many files or folios were
-    /// made as can be counted.
+    /// Makes room for the attributes of one call, for one file, and where blocks are allowed for those of one slot.
+    /// `NoMemory` also comes where as many files or folios were made as can be counted.
     pub fn reserve_call(&mut self) -> Result<(), NoMemory>
         ensures more { StateHasMoreRoom self.old self.new }
         ensures kinds { OnOk result (1 ≤ self.new.attrs.call_spare) }
+        ensures blocks { OnOk result (HasBlockRoom self.new) }
         ensures files { OnOk result (1 ≤ self.new.store.spare) }
         ensures numbers { OnOk result (length self.new.store.files < 2 ^ 32 - 1) }
         ensures serials { OnOk result (self.new.store.pool.next < COUNTER_LIMIT) }
     {
         self.attrs.reserve(1)?;
+        reserve_blocks(self.huge, &mut self.attrs)?;
         self.store.reserve(1, None, 0, 0)?;
         if self.store.count() >= u32::MAX as usize || self.store.next_serial() >= COUNTER_LIMIT {
             return Err(NoMemory);

@@ -22,6 +22,8 @@ use std::marker::Model;
 #[derive(Drop)]
 pub struct State {
     pub(crate) alloc: Global,
+    // Whether blocks are allowed. Where they are, those of the slots are tracked.
+    pub(crate) huge: bool,
     pub(crate) slots: Slots,
     pub(crate) attrs: Attrs,
     pub(crate) user: Bank,
@@ -34,7 +36,7 @@ impl Model for State {
 
     ghost Value = { StateView };
 
-    ghost view = { λ s. record { slots = s.slots; attrs = s.attrs; user = s.user; store = s.store; freed = s.freed } };
+    ghost view = { λ s. record { huge = s.huge; slots = s.slots; attrs = s.attrs; user = s.user; store = s.store; freed = s.freed } };
 }
 
 impl State {
@@ -47,6 +49,7 @@ impl State {
         let _pages = user.pages();
         Ok(State {
             alloc,
+            huge: setup.huge,
             slots: Slots::new(alloc)?,
             attrs: Attrs::new(alloc)?,
             user,

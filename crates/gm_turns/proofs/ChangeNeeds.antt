@@ -71,7 +71,7 @@ by_effect k c (Cut file lo hi) r h n = h.0
 by_effect k c (Shut file) r h n = h.0
 by_effect k c (Mark slot) r h n = tt
 by_effect k c (NoSlot slot) r h n = tt
-by_effect k c (Move slot base) r h n = tt
+by_effect k c (Move slot base) r h n = r.room.blocks
 by_effect k c (Word page word value) r h n = tt
 
 pub state_room : (k : Core) (c : ℕ) (effect : Effect) → IsReady k (Caller c) → IsAt effect (Some step.Acked) (caller_at k.callers c).call → HasRoomFor k.state effect

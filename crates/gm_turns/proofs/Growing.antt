@@ -113,6 +113,7 @@ roomy_with k n a same bind r = subst (λ (x : Core). IsRoomyFor x a) (sym same) 
   short = r.short;
   leaf = r.leaf;
   kinds = r.kinds;
+  blocks = r.blocks;
   files = r.files;
   numbers = r.numbers;
   serials = r.serials;

@@ -24,6 +24,7 @@ use Rattle.gm_laws.specs.Turns.{IsNewTurn}
 use Rattle.gm_mapping.specs.Mapping.{MappingStands}
 use Rattle.gm_mmu.specs.Served.{Serving}
 use Rattle.gm_state.proofs.Rooming.{more_over, same_state}
+use Rattle.gm_state.specs.Applying.{HasBlockRoom}
 use Rattle.gm_state.specs.HasMoreRoom.{StateHasMoreRoom}
 use Rattle.gm_state.specs.Views.{StateView}
 use Rattle.gm_store.specs.Rooms.{HasRoom, RoomKept, with_room}
@@ -177,6 +178,12 @@ own_room_still k n (Vcpu v) h r =
     subst (λ (x : Core). HasPageRoom n.state (file_of_fault (vcpu_at x.vcpus v).fault)) (sym h.same) (page_room_still k.state n.state (file_of_fault (vcpu_at k.vcpus v).fault) h.state r)
 own_room_still k n (Caller c) h r = call_room_still k n c (caller_at k.callers c).call (caller_at n.callers c).call (h.callers.judged c) h r
 
+block_room_still : (old new : StateView) → StateHasMoreRoom old new → HasBlockRoom old → HasBlockRoom new
+block_room_still old new h r = λ is.
+    let own : 128 ≤ old.attrs.block_spare = r (sym (ap (λ (x : StateView). x.huge) h.others) ∙ is) in
+    let le = h.blocks in
+    omega arith
+
 pub common_still : (k n : Core) → CoreHasMoreRoom k n → HasCommonRoom k → HasCommonRoom n
 common_still k n h r =
     let a = h.entries in
@@ -192,16 +199,17 @@ common_still k n h r =
       short = subst (λ (past : List Entry). length past < 2305843009213693952) (sym h.past) r.short;
       leaf = omega arith;
       kinds = omega arith;
+      blocks = block_room_still k.state n.state h.state r.blocks;
       files = omega arith;
       numbers = let e : length n.state.store.files ≡ length k.state.store.files = h.state.rooms.count_is in let q = r.numbers in omega arith;
       serials = let e : n.state.store.pool.next ≡ k.state.store.pool.next = ap (λ (x : StoreView). x.pool.next) h.state.store_is in let q = r.serials in omega arith;
     }
 
 pub common_of : (k : Core) (a : Actor) → IsRoomyFor k a → HasCommonRoom k
-common_of k a r = record { entries = r.entries; short = r.short; leaf = r.leaf; kinds = r.kinds; files = r.files; numbers = r.numbers; serials = r.serials }
+common_of k a r = record { entries = r.entries; short = r.short; leaf = r.leaf; kinds = r.kinds; blocks = r.blocks; files = r.files; numbers = r.numbers; serials = r.serials }
 
 pub roomy_of : (k : Core) (a : Actor) → HasCommonRoom k → HasOwnRoom k a → IsRoomyFor k a
-roomy_of k a r own = record { entries = r.entries; short = r.short; leaf = r.leaf; kinds = r.kinds; files = r.files; numbers = r.numbers; serials = r.serials; own = own }
+roomy_of k a r own = record { entries = r.entries; short = r.short; leaf = r.leaf; kinds = r.kinds; blocks = r.blocks; files = r.files; numbers = r.numbers; serials = r.serials; own = own }
 
 pub roomier : (k n : Core) → CoreHasMoreRoom k n → IsRoomier k n
 roomier k n h = record {

@@ -24,7 +24,7 @@ use Rattle.gm_mapping.proofs.Quiet as mapping
 use Rattle.gm_state.proofs.Alike.{alike}
 use Rattle.gm_state.proofs.PlannedReads.{none_due, same_cache, short_uncut}
 use Rattle.gm_state.proofs.Promises.{promises}
-use Rattle.gm_state.specs.Applying.{CanApply, HasBindRoom, HasRoomFor}
+use Rattle.gm_state.specs.Applying.{CanApply, HasBindRoom, HasBlockRoom, HasRoomFor}
 use Rattle.gm_state.specs.Promised.{Makes, Promised}
 use Rattle.gm_state.specs.Stand.{Applied, StateIs, after_effect}
 use Rattle.gm_state.specs.Views.{StateView}
@@ -58,14 +58,14 @@ can_change k c i effect answer r e = record {
 
 -- room for it
 
-new_room : (st : StateView) (r : Region) (t : Bool) → (t ≡ true → HasBindRoom st (Some r.fd)) → HasRoomFor st (new_slot r t)
-new_room st r true h = h refl
-new_room st r false h = tt
+new_room : (st : StateView) (r : Region) (t : Bool) → (t ≡ true → HasBindRoom st (Some r.fd)) → HasBlockRoom st → HasRoomFor st (new_slot r t)
+new_room st r true h b = (h refl, b)
+new_room st r false h b = (tt, b)
 
 slot_room : (k : Core) (c : ℕ) (r : Region) (effect : Effect) → IsReady k (Caller c) → (caller_at k.callers c).call ≡ None → next_command (orders_of k) (Caller c) k.log.past ≡ Some (CallCommand (Region2 r)) → effect ≡ new_slot r (wants_file r) → (wants_file r ≡ true → IsSome (file_in k.state.store.files r.fd)) → HasRoomFor k.state effect
 slot_room k c r effect x none command e there =
     let own : CanBind k c = (has_room k c x none).1 in
-    subst (HasRoomFor k.state) (sym e) (new_room k.state r (wants_file r) (λ t. own r command t (there t)))
+    subst (HasRoomFor k.state) (sym e) (new_room k.state r (wants_file r) (λ t. own r command t (there t)) x.room.blocks)
 
 pub short_room : (k : Core) (c : ℕ) (i : Ioctl) (effect : Effect) → IsReady k (Caller c) → (caller_at k.callers c).call ≡ None → next_command (orders_of k) (Caller c) k.log.past ≡ Some (CallCommand i) → Makes k.setup i (flat k.log.past) effect → cuts effect ≡ false → HasRoomFor k.state effect
 short_room k c i (File file pages block) r none command m u = r.room.files
@@ -76,7 +76,7 @@ short_room k c (Region2 x) (Slot slot base pages user flags file index) r none c
     slot_room k c x (Slot slot base pages user flags file index) r none command m.effect_is (λ t. is_there k.setup.frames k.state.store (memory_of k.setup k.log.past).stored x.fd r.settled.stands.state.is.store (m.binds t).used)
 short_room k c i (Slot slot base pages user flags file index) r none command m u = absurd m
 short_room k c i (NoSlot slot) r none command m u = tt
-short_room k c i (Move slot base) r none command m u = tt
+short_room k c i (Move slot base) r none command m u = r.room.blocks
 short_room k c i (Mark slot) r none command m u = tt
 short_room k c i (Word page word value) r none command m u = tt
 

@@ -10,6 +10,7 @@ use Rattle.gm_callers.specs.declared.caller.Caller.{Caller}
 use Rattle.gm_callers.specs.declared.caller.InProgress.{InProgress}
 use Rattle.gm_calls.specs.declared.judged.Judged.{Judged}
 use Rattle.gm_flat.specs.declared.entry.Entry.{Entry}
+use Rattle.gm_state.specs.Applying.{HasBlockRoom}
 use Rattle.gm_state.specs.HasMoreRoom.{StateHasMoreRoom}
 use Rattle.gm_turns.specs.Room.{ENTRY_LIMIT}
 use Rattle.gm_turns.specs.declared.parts.Core.{Core}
@@ -42,6 +43,7 @@ pub record HasCommonRoom (k : Core) : Type 0 where
   pub short : length k.log.past < ENTRY_LIMIT
   pub leaf : 1 ≤ k.mmu.spare
   pub kinds : 1 ≤ k.state.attrs.call_spare
+  pub blocks : HasBlockRoom k.state
   pub files : 1 ≤ k.state.store.spare
   pub numbers : length k.state.store.files < 2 ^ 32 - 1
   pub serials : k.state.store.pool.next < COUNTER_LIMIT

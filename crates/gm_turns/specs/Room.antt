@@ -20,6 +20,7 @@ use Rattle.gm_flat.specs.declared.effect.Effect.{Effect}
 use Rattle.gm_flat.specs.declared.effect.Effect.TheVariants.{Cut, Shut}
 use Rattle.gm_flat.specs.declared.views.Looked.{Looked}
 use Rattle.gm_flat.specs.declared.views.SlotView.{SlotView}
+use Rattle.gm_state.specs.Applying.{HasBlockRoom}
 use Rattle.gm_state.specs.Views.{StateView}
 use Rattle.gm_store.specs.Views.{file_in, page_room, bind_room, pairs_in}
 use Rattle.gm_vcpus.specs.Vcpus.{vcpu_at}
@@ -87,6 +88,7 @@ pub record IsRoomyFor (k : Core) (a : Actor) : Type 0 where
   pub short : length k.log.past < ENTRY_LIMIT
   pub leaf : 1 ≤ k.mmu.spare
   pub kinds : 1 ≤ k.state.attrs.call_spare
+  pub blocks : HasBlockRoom k.state
   pub files : 1 ≤ k.state.store.spare
   pub numbers : length k.state.store.files < 2 ^ 32 - 1
   pub serials : k.state.store.pool.next < COUNTER_LIMIT

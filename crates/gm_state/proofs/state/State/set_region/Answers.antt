@@ -1,10 +1,9 @@
-use Rattle.std.proofs.Common.{◌∙◌, refl, subst, sym, ap}
+use Rattle.std.proofs.Common.{subst, sym}
 use Rattle.gm_base.specs.declared.calls.Ioctl.TheVariants.{Region2}
 use Rattle.gm_flat.specs.declared.effect.Effect.{Effect}
-use Rattle.gm_state.proofs.Effecting.{drops_it, made_effect, move_by}
+use Rattle.gm_state.proofs.Effecting.{drops_it, made_effect, moves_it}
 use Rattle.gm_state.specs.Applying.{CanApply}
-use Rattle.gm_state.specs.Stand.{Applied, StateIs}
-use Rattle.gm_state.specs.Views.{StateView}
+use Rattle.gm_state.specs.Stand.{Applied}
 use Rattle.gm_state.proofs.state.State.set_region.Goals as goal
 
 pub returns-in-Slot-clause-applied : goal.returns-in-Slot-clause-applied
@@ -19,5 +18,5 @@ returns-in-NoSlot-clause-applied c = λ s m k.
 
 pub returns-in-Move-clause-applied : goal.returns-in-Move-clause-applied
 returns-in-Move-clause-applied c = λ s m k.
-    let t = subst (λ (x : StateView). StateIs s x m) (sym c.self.view_is) k.is in
-    move_by s _ _ m c.args.effect.now c.args.region.now c.in-Move.slot c.in-Move.base c.in-Move.is k.makes t refl (ap (λ (x : StateView). x.freed.list) c.self.view_is ∙ c.requires.cleared) c.apply.ensures.slots
+    let e = moves_it s c.args.region.now m.stored.flat c.args.effect.now c.in-Move.slot c.in-Move.base c.in-Move.is k.makes in
+    subst (λ (x : Effect). Applied s m x c.move_slot.new.self) (sym e) (c.move_slot.ensures.applied s m (subst (λ (x : Effect). CanApply s c.args.self.now m (Region2 c.args.region.now) x) e k))
