@@ -1,4 +1,5 @@
 pub mod Brackets
+pub mod Depositing
 pub mod Faulting
 pub mod HasMoreRoom
 pub mod Judging

@@ -102,3 +102,26 @@ by_fault user v k (Some j) (Faulting a missed s l g) past e f h =
 pub flight : {s : Setup} {vs : List Vcpu} {past : List Entry} (v : ℕ) (k : Ticket) (t : Stage) → VcpusStand s vs past → v < s.vcpus → (vcpu_at vs v).fault ≡ Some k → stage_of k ≡ t → Flies s.user v k t past
 flight {s = s} {vs = vs} {past = past} v k t st lt e is =
     subst (λ (z : Stage). Flies s.user v k z past) is (by_fault s.user v k (vcpu_at vs v).fault (fault v past) past e refl (st.each v no_vcpu lt).fault_is)
+
+-- a ticket of a fault that has only missed
+pub record OnlyMissed (o : Option Ticket) (a : Aim) : Type 0 where
+  pub ticket : Ticket
+  pub held : o ≡ Some ticket
+  pub stage_is : stage_of ticket ≡ at.Missed
+  pub access_is : ticket.access ≡ a
+
+none_yet : (user page missed : ℕ) (x : Option Sampled) (y : Option Looked) (b : Option Backing) (past : List Entry) → StageIs user page missed x y b None None None past → stage_by x y b ≡ at.Missed
+none_yet user page missed None y b past h = refl
+none_yet user page missed (Some x) None None past h = absurd h
+none_yet user page missed (Some x) None (Some b) past h = absurd h
+none_yet user page missed (Some x) (Some y) None past h = absurd h
+none_yet user page missed (Some x) (Some y) (Some b) past h = absurd h
+
+only_by : (user : ℕ) (o : Option Ticket) (a : Aim) (missed : ℕ) (past : List Entry) → FaultIs user o (Faulting a missed None None None) past → OnlyMissed o a
+only_by user None a missed past h = absurd h
+only_by user (Some k) a missed past h = record { ticket = k; held = refl; stage_is = none_yet user a.page missed k.sampled k.looked k.backing past h.stage_is; access_is = h.access_is }
+
+-- a fault of the history that has only missed is in flight
+pub only_missed : {s : Setup} {vs : List Vcpu} {past : List Entry} (v : ℕ) (a : Aim) (missed : ℕ) → VcpusStand s vs past → v < s.vcpus → fault v past ≡ Faulting a missed None None None → OnlyMissed (vcpu_at vs v).fault a
+only_missed {s = s} {vs = vs} {past = past} v a missed st lt e =
+    only_by s.user (vcpu_at vs v).fault a missed past (subst (λ (x : Fault). FaultIs s.user (vcpu_at vs v).fault x past) e (st.each v no_vcpu lt).fault_is)

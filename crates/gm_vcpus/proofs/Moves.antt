@@ -7,7 +7,7 @@ use Rattle.gm_base.specs.declared.values.Actor.TheVariants.{Vcpu as OfVcpu}
 use Rattle.gm_base.specs.declared.values.Level.{Level}
 use Rattle.gm_base.specs.declared.values.Setup.{Setup}
 use Rattle.gm_fault.specs.declared.ticket.Ticket.{Ticket}
-use Rattle.gm_flat.specs.Histories.{Seen, done, fault}
+use Rattle.gm_flat.specs.Histories.{Faulting, Seen, done, fault}
 use Rattle.gm_flat.specs.declared.effect.Backing.{Backing}
 use Rattle.gm_flat.specs.declared.effect.Exit.{Exit}
 use Rattle.gm_flat.specs.declared.entry.Entry.{Entry}
@@ -15,7 +15,7 @@ use Rattle.gm_flat.specs.declared.entry.What.{What}
 use Rattle.gm_flat.specs.declared.entry.What.TheVariants.{Miss, Sample, Look, Get, Install, Retry, Touch, Left, Gone}
 use Rattle.gm_flat.specs.declared.views.Looked.{Looked}
 use Rattle.gm_flat.specs.declared.views.Sampled.{Sampled}
-use Rattle.gm_laws.proofs.Counted.{ends_before}
+use Rattle.gm_laws.proofs.Counted.{ends_all}
 use Rattle.gm_laws.proofs.Kit.{by}
 use Rattle.gm_laws.specs.Counting.{ends}
 use Rattle.gm_vcpus.proofs.Flights.{flight}
@@ -64,16 +64,13 @@ got_as user page missed x u y z b sample l after past ex ey h k = rw (ex, ey) (h
 more : (a b : ℕ) → a ≤ b → a ≤ suc b
 more a b h = omega arith
 
--- a sample at the present position
-pub now_sampled : (missed : ℕ) (z : Sampled) (e : Entry) (past : List Entry) → missed ≤ length past → z.at ≡ length past → z.seq ≡ ends past → SampleIs z (length past) missed (e ∷ past)
-now_sampled missed z e past le at seq = record { at_is = at; after_miss = le; so_far = more (length past) (length past) (omega arith); seq_is = seq ∙ sym (ends_before e past) }
-
-pub samples : {s : Setup} {vs : List Vcpu} {past : List Entry} (t v : ℕ) (k : Ticket) (z : Sampled) → VcpusStand s vs past → v < s.vcpus → (vcpu_at vs v).fault ≡ Some k → stage_of k ≡ at.Missed → z.at ≡ length past → z.seq ≡ ends past → VcpusStand s (set vs v (sampling (vcpu_at vs v) z)) (by t (OfVcpu v) (Sample (length past)) ∷ past)
-samples {s = s} {vs = vs} {past = past} t v k z st lt e is here seq =
+-- a sample for a position after the miss
+pub samples_at : {s : Setup} {vs : List Vcpu} {past : List Entry} (t v : ℕ) (k : Ticket) (z : Sampled) (position : ℕ) → VcpusStand s vs past → v < s.vcpus → (vcpu_at vs v).fault ≡ Some k → stage_of k ≡ at.Missed → ((missed : ℕ) → fault v past ≡ Faulting k.access missed None None None → missed ≤ length past → SampleIs z position missed past) → VcpusStand s (set vs v (sampling (vcpu_at vs v) z)) (by t (OfVcpu v) (Sample position) ∷ past)
+samples_at {s = s} {vs = vs} {past = past} t v k z position st lt e is sampled =
     let old = st.each v no_vcpu lt in
     let f = flight v k at.Missed st lt e is in
-    let entry : Entry = by t (OfVcpu v) (Sample (length past)) in
-    moved t v (Sample (length past)) past (sampling (vcpu_at vs v) z) st lt
+    let entry : Entry = by t (OfVcpu v) (Sample position) in
+    moved t v (Sample position) past (sampling (vcpu_at vs v) z) st lt
     (record {
       ended_is = old.ended_is;
       gone_is = old.gone_is;
@@ -82,21 +79,28 @@ samples {s = s} {vs = vs} {past = past} t v k z st lt e is here seq =
           (record {
             access_is = refl;
             so_far = more f.missed (length past) f.so_far;
-            stage_is = sampled_as s.user k.access.page f.missed z k.looked k.backing (length past) (entry ∷ past) f.not_looked f.not_got (now_sampled f.missed z entry past f.so_far here seq);
+            stage_is = sampled_as s.user k.access.page f.missed z k.looked k.backing position (entry ∷ past) f.not_looked f.not_got (sample_later z position f.missed entry past (sampled f.missed f.fault_is f.so_far));
           });
     })
 
--- its fault looks up its page
+-- a sample at the present position
+now_sampled : (missed : ℕ) (z : Sampled) (past : List Entry) → missed ≤ length past → z.at ≡ length past → z.seq ≡ ends past → SampleIs z (length past) missed past
+now_sampled missed z past le at seq = record { at_is = at; after_miss = le; so_far = omega arith; seq_is = seq ∙ sym (ends_all past) }
+
+pub samples : {s : Setup} {vs : List Vcpu} {past : List Entry} (t v : ℕ) (k : Ticket) (z : Sampled) → VcpusStand s vs past → v < s.vcpus → (vcpu_at vs v).fault ≡ Some k → stage_of k ≡ at.Missed → z.at ≡ length past → z.seq ≡ ends past → VcpusStand s (set vs v (sampling (vcpu_at vs v) z)) (by t (OfVcpu v) (Sample (length past)) ∷ past)
+samples {past = past} t v k z st lt e is here seq = samples_at t v k z (length past) st lt e is (λ missed _ le. now_sampled missed z past le here seq)
+
+-- its fault looks up its page, for a position after its sample
 
 abbrev pub seen_by : ℕ → ℕ → Looked → Option ℕ → Option ℕ → Seen
 seen_by place at z slot file = record { place = place; at = at; slot = slot; attr = z.attr; file = file }
 
-pub looks : {s : Setup} {vs : List Vcpu} {past : List Entry} (t v : ℕ) (k : Ticket) (x : Sampled) (z : Looked) (slot file : Option ℕ) → VcpusStand s vs past → v < s.vcpus → (vcpu_at vs v).fault ≡ Some k → stage_of k ≡ at.Sampled x → ((sample : ℕ) → sample ≤ length past → LookIs s.user k.access.page sample z (seen_by (length past) (length past) z slot file) (by t (OfVcpu v) (Look (length past) slot z.attr file) ∷ past)) → VcpusStand s (set vs v (looking (vcpu_at vs v) z)) (by t (OfVcpu v) (Look (length past) slot z.attr file) ∷ past)
-looks {s = s} {vs = vs} {past = past} t v k x z slot file st lt e is look =
+pub looks : {s : Setup} {vs : List Vcpu} {past : List Entry} (t v : ℕ) (k : Ticket) (x : Sampled) (z : Looked) (position : ℕ) (slot file : Option ℕ) → VcpusStand s vs past → v < s.vcpus → (vcpu_at vs v).fault ≡ Some k → stage_of k ≡ at.Sampled x → ((sample : ℕ) → x.at ≡ sample → sample ≤ length past → LookIs s.user k.access.page sample z (seen_by (length past) position z slot file) (by t (OfVcpu v) (Look position slot z.attr file) ∷ past)) → VcpusStand s (set vs v (looking (vcpu_at vs v) z)) (by t (OfVcpu v) (Look position slot z.attr file) ∷ past)
+looks {s = s} {vs = vs} {past = past} t v k x z position slot file st lt e is look =
     let old = st.each v no_vcpu lt in
     let f = flight v k (at.Sampled x) st lt e is in
-    let entry : Entry = by t (OfVcpu v) (Look (length past) slot z.attr file) in
-    moved t v (Look (length past) slot z.attr file) past (looking (vcpu_at vs v) z) st lt
+    let entry : Entry = by t (OfVcpu v) (Look position slot z.attr file) in
+    moved t v (Look position slot z.attr file) past (looking (vcpu_at vs v) z) st lt
     (record {
       ended_is = old.ended_is;
       gone_is = old.gone_is;
@@ -105,7 +109,7 @@ looks {s = s} {vs = vs} {past = past} t v k x z slot file st lt e is look =
           (record {
             access_is = refl;
             so_far = more f.missed (length past) f.so_far;
-            stage_is = looked_as s.user k.access.page f.missed k.sampled x z k.backing f.sample (seen_by (length past) (length past) z slot file) (entry ∷ past) f.sampled f.not_got (sample_later x f.sample f.missed entry past f.sample_is) (look f.sample f.sample_is.so_far);
+            stage_is = looked_as s.user k.access.page f.missed k.sampled x z k.backing f.sample (seen_by (length past) position z slot file) (entry ∷ past) f.sampled f.not_got (sample_later x f.sample f.missed entry past f.sample_is) (look f.sample f.sample_is.at_is f.sample_is.so_far);
           });
     })
 
