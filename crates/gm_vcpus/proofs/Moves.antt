@@ -7,7 +7,7 @@ use Rattle.gm_base.specs.declared.values.Actor.TheVariants.{Vcpu as OfVcpu}
 use Rattle.gm_base.specs.declared.values.Level.{Level}
 use Rattle.gm_base.specs.declared.values.Setup.{Setup}
 use Rattle.gm_fault.specs.declared.ticket.Ticket.{Ticket}
-use Rattle.gm_flat.specs.Histories.{Faulting, Seen, done, fault}
+use Rattle.gm_flat.specs.Histories.{Fault, Faulting, Gotten, NoFault, Seen, done, fault, with_get, with_look, with_sample}
 use Rattle.gm_flat.specs.declared.effect.Backing.{Backing}
 use Rattle.gm_flat.specs.declared.effect.Exit.{Exit}
 use Rattle.gm_flat.specs.declared.entry.Entry.{Entry}
@@ -22,7 +22,7 @@ use Rattle.gm_vcpus.proofs.Flights.{flight}
 use Rattle.gm_vcpus.proofs.Lists.{self, set_each}
 use Rattle.gm_vcpus.proofs.Stays.{fault_later, look_later, sample_later, still_other, vcpu_stays}
 use Rattle.gm_vcpus.specs.Stages.{stage_of}
-use Rattle.gm_vcpus.specs.Stand.{LookIs, SampleIs, StageIs, VcpuIs, VcpusStand}
+use Rattle.gm_vcpus.specs.Stand.{LookIs, MissedIs, SampleIs, StageIs, VcpuIs, VcpusStand}
 use Rattle.gm_vcpus.specs.Vcpus.{exited, getting, leaving, looking, missing, no_vcpu, sampling, settled, touched, vcpu_at}
 use Rattle.gm_vcpus.specs.declared.stage.Stage.TheVariants as at
 use Rattle.gm_vcpus.specs.declared.vcpu.Vcpu.{Vcpu}
@@ -40,13 +40,14 @@ moved {s = s} {vs = vs} t v w past x st lt here = record {
 
 -- an access misses
 
-pub misses : {s : Setup} {vs : List Vcpu} {past : List Entry} (t v : ℕ) (a : Aim) → VcpusStand s vs past → v < s.vcpus → VcpusStand s (set vs v (missing (vcpu_at vs v) a)) (by t (OfVcpu v) (Miss a) ∷ past)
-misses {s = s} {vs = vs} {past = past} t v a st lt =
+pub misses : {s : Setup} {vs : List Vcpu} {past : List Entry} (t v : ℕ) (a : Aim) (after : ℕ) → VcpusStand s vs past → v < s.vcpus → after ≡ suc (length past) → VcpusStand s (set vs v (missing (vcpu_at vs v) a after)) (by t (OfVcpu v) (Miss a) ∷ past)
+misses {s = s} {vs = vs} {past = past} t v a after st lt here =
     let old = st.each v no_vcpu lt in
-    moved t v (Miss a) past (missing (vcpu_at vs v) a) st lt
+    moved t v (Miss a) past (missing (vcpu_at vs v) a after) st lt
     (record {
       ended_is = old.ended_is;
       gone_is = old.gone_is;
+      missed_is = rw (self v) here;
       fault_is = rw (self v) (record { access_is = refl; so_far = omega arith; stage_is = tt });
     })
 
@@ -61,6 +62,19 @@ looked_as user page missed x u z b sample l past ex eb h k = rw (ex, eb) (h, k)
 got_as : (user page missed : ℕ) (x : Option Sampled) (u : Sampled) (y : Option Looked) (z : Looked) (b : Backing) (sample : ℕ) (l : Seen) (after : ℕ) (past : List Entry) → x ≡ Some u → y ≡ Some z → SampleIs u sample missed past → LookIs user page sample z l past → StageIs user page missed x y (Some b) (Some sample) (Some l) (Some (record { after = after; backing = b })) past
 got_as user page missed x u y z b sample l after past ex ey h k = rw (ex, ey) (h, k, refl)
 
+-- its miss stays where it was
+sample_keeps : (n position : ℕ) (x : Fault) → MissedIs n x → MissedIs n (with_sample position x)
+sample_keeps n position NoFault h = h
+sample_keeps n position (Faulting a m s l g) h = h
+
+look_keeps : (n : ℕ) (seen : Seen) (x : Fault) → MissedIs n x → MissedIs n (with_look seen x)
+look_keeps n seen NoFault h = h
+look_keeps n seen (Faulting a m s l g) h = h
+
+get_keeps : (n : ℕ) (gotten : Gotten) (x : Fault) → MissedIs n x → MissedIs n (with_get gotten x)
+get_keeps n gotten NoFault h = h
+get_keeps n gotten (Faulting a m s l g) h = h
+
 more : (a b : ℕ) → a ≤ b → a ≤ suc b
 more a b h = omega arith
 
@@ -74,6 +88,7 @@ samples_at {s = s} {vs = vs} {past = past} t v k z position st lt e is sampled =
     (record {
       ended_is = old.ended_is;
       gone_is = old.gone_is;
+      missed_is = rw (self v) (sample_keeps (vcpu_at vs v).missed position (fault v past) old.missed_is);
       fault_is =
           rw (e, self v, f.fault_is)
           (record {
@@ -104,6 +119,7 @@ looks {s = s} {vs = vs} {past = past} t v k x z position slot file st lt e is lo
     (record {
       ended_is = old.ended_is;
       gone_is = old.gone_is;
+      missed_is = rw (self v) (look_keeps (vcpu_at vs v).missed (seen_by (length past) position z slot file) (fault v past) old.missed_is);
       fault_is =
           rw (e, self v, f.fault_is)
           (record {
@@ -124,6 +140,7 @@ gets {s = s} {vs = vs} {past = past} t v k x y b fresh st lt e is =
     (record {
       ended_is = old.ended_is;
       gone_is = old.gone_is;
+      missed_is = rw (self v) (get_keeps (vcpu_at vs v).missed (record { after = suc (length past); backing = b }) (fault v past) old.missed_is);
       fault_is =
           rw (e, self v, f.fault_is)
           (record {
@@ -138,14 +155,14 @@ gets {s = s} {vs = vs} {past = past} t v k x y b fresh st lt e is =
 pub installs : {s : Setup} {vs : List Vcpu} {past : List Entry} (t v page : ℕ) (level : Level) → VcpusStand s vs past → v < s.vcpus → VcpusStand s (set vs v (settled (vcpu_at vs v))) (by t (OfVcpu v) (Install page level) ∷ past)
 installs {s = s} {vs = vs} {past = past} t v page level st lt =
     let old = st.each v no_vcpu lt in
-    moved t v (Install page level) past (settled (vcpu_at vs v)) st lt (record { ended_is = old.ended_is; gone_is = old.gone_is; fault_is = rw (self v) tt })
+    moved t v (Install page level) past (settled (vcpu_at vs v)) st lt (record { ended_is = old.ended_is; gone_is = old.gone_is; missed_is = rw (self v) tt; fault_is = rw (self v) tt })
 
 -- its fault is tried again
 
 pub retries : {s : Setup} {vs : List Vcpu} {past : List Entry} (t v : ℕ) → VcpusStand s vs past → v < s.vcpus → VcpusStand s (set vs v (settled (vcpu_at vs v))) (by t (OfVcpu v) Retry ∷ past)
 retries {s = s} {vs = vs} {past = past} t v st lt =
     let old = st.each v no_vcpu lt in
-    moved t v Retry past (settled (vcpu_at vs v)) st lt (record { ended_is = old.ended_is; gone_is = old.gone_is; fault_is = rw (self v) tt })
+    moved t v Retry past (settled (vcpu_at vs v)) st lt (record { ended_is = old.ended_is; gone_is = old.gone_is; missed_is = rw (self v) tt; fault_is = rw (self v) tt })
 
 -- its command touches, and so ends
 
@@ -159,6 +176,7 @@ touches {s = s} {vs = vs} {past = past} t v a b level value fill st lt =
     (record {
       ended_is = rw (self v) (plus_one (vcpu_at vs v).ended (done (OfVcpu v) past) old.ended_is);
       gone_is = old.gone_is;
+      missed_is = old.missed_is;
       fault_is = fault_later s.user (vcpu_at vs v).fault (fault v past) (by t (OfVcpu v) (Touch a b level value fill)) past old.fault_is;
     })
 
@@ -171,6 +189,7 @@ exits {s = s} {vs = vs} {past = past} t v why st lt =
     (record {
       ended_is = rw (self v) (plus_one (vcpu_at vs v).ended (done (OfVcpu v) past) old.ended_is);
       gone_is = old.gone_is;
+      missed_is = rw (self v) tt;
       fault_is = rw (self v) tt;
     })
 
@@ -183,5 +202,6 @@ leaves {s = s} {vs = vs} {past = past} t v st lt =
     (record {
       ended_is = old.ended_is;
       gone_is = rw (self v) refl;
+      missed_is = old.missed_is;
       fault_is = fault_later s.user (vcpu_at vs v).fault (fault v past) (by t (OfVcpu v) Gone) past old.fault_is;
     })
