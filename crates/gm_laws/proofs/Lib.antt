@@ -48,6 +48,7 @@ pub mod OneReadPlays
 pub mod FlushPendingPlays
 pub mod Frames
 pub mod SlotsKeep
+pub mod SmallSlots
 pub mod TurnsKeep
 pub mod BoundRanges
 mod JudgedRows

@@ -18,6 +18,7 @@ pub mod Readings
 pub mod Rows
 pub mod Ruled
 pub mod SlotsStand
+pub mod SmallSlots
 pub mod Smallest
 pub mod Stands
 pub mod TouchFrames

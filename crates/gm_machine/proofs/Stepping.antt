@@ -1,5 +1,5 @@
 -- Steps of a machine: what is seen of them, how they are counted, and the room that they use.
-use Rattle.std.proofs.Common.{◌≡◌, ℕ, ◌+◌, List, [], ◌∷◌, Bool, true, false, length, arith, subst, sym, ◌∙◌, ap, refl, inl, inr}
+use Rattle.std.proofs.Common.{◌≡◌, ℕ, ◌+◌, ◌<◌, List, [], ◌∷◌, Bool, true, false, length, arith, subst, sym, ◌∙◌, ap, refl, inl, inr}
 use Rattle.std.proofs.lemmas.Bool.{both_ways}
 use Rattle.std.proofs.lemmas.List.{length-replicate}
 use Rattle.gm_base.specs.Scripts.{Orders}
@@ -8,14 +8,18 @@ use Rattle.gm_base.specs.declared.values.Actor.{Actor}
 use Rattle.gm_base.specs.declared.values.Actor.TheVariants.{Vcpu, Caller}
 use Rattle.gm_base.specs.declared.values.Setup.{Setup}
 use Rattle.gm_flat.specs.declared.entry.Entry.{Entry}
+use Rattle.gm_flat.specs.declared.views.Sighting.{Sighting}
 use Rattle.gm_laws.proofs.RuledIsRight.{right}
+use Rattle.gm_laws.specs.Ruled.{Ruled}
 use Rattle.gm_laws.specs.Turns.{IsNewTurn}
 use Rattle.gm_machine.proofs.Flagging.{flag_either, flag_lengths, flag_of-no_flags}
-use Rattle.gm_machine.specs.Flags.{Flags, no_flags, with_flag}
+use Rattle.gm_machine.specs.Deposits.{Deposits}
+use Rattle.gm_machine.specs.Flags.{Flags, flag_of, no_flags, with_flag}
 use Rattle.gm_machine.specs.Room.{RoomIsKept}
 use Rattle.gm_machine.specs.Steps.{Goes, Kicks, Moves, Seen}
+use Rattle.gm_turns.specs.Depositing.{Deposited}
 use Rattle.gm_turns.specs.Pushing.{IsLonger}
-use Rattle.gm_turns.specs.Ready.{Commanded, CoreStands, IsWithinLimits, Settled, Turned}
+use Rattle.gm_turns.specs.Ready.{Commanded, CoreStands, IsReady, IsWithinLimits, Settled, Turned}
 use Rattle.gm_turns.specs.Room.{IsRoomyFor, orders_of}
 use Rattle.gm_turns.specs.Turning.{IsRoomier, Kicked, Taken}
 use Rattle.gm_turns.specs.declared.parts.Core.{Core}
@@ -53,14 +57,20 @@ next_number : (n m : ℕ) (past : List Entry) → n ≡ m → IsNewTurn (m + 2) 
 next_number n m [] e h = omega arith
 next_number n m (d ∷ past) e h = omega arith
 
-pub turn_settled : (old new : Core) (a : Actor) (kick : Bool) → Settled old → Turned old new a kick → Settled (counted new)
-turn_settled old new a kick s t = record {
-  stands = counted_stands new t.stands;
-  commanded = subst Commanded (sym t.orders) s.commanded;
-  limits = subst IsWithinLimits (sym (ap (λ (x : Orders). x.setup) t.orders)) s.limits;
-  ruled = t.ruled;
-  new_turn = next_number new.turns old.turns new.log.past t.turns t.next;
+pub counted_settled : (old new : Core) → Settled old → CoreStands new → Ruled (orders_of new) new.log.past → orders_of new ≡ orders_of old → new.turns ≡ old.turns → IsNewTurn (old.turns + 2) new.log.past → Settled (counted new)
+counted_settled old new s stands ruled orders turns next = record {
+  stands = counted_stands new stands;
+  commanded = subst Commanded (sym orders) s.commanded;
+  limits = subst IsWithinLimits (sym (ap (λ (x : Orders). x.setup) orders)) s.limits;
+  ruled = ruled;
+  new_turn = next_number new.turns old.turns new.log.past turns next;
 }
+
+pub turn_settled : (old new : Core) (a : Actor) (kick : Bool) → Settled old → Turned old new a kick → Settled (counted new)
+turn_settled old new a kick s t = counted_settled old new s t.stands t.ruled t.orders t.turns t.next
+
+pub deposit_settled : (old new : Core) (v : ℕ) (x : Sighting) → Settled old → Deposited old new v x → Settled (counted new)
+deposit_settled old new v x s t = counted_settled old new s t.stands t.ruled t.orders t.turns t.next
 
 -- a turn uses up all room
 pub room_cleared : (old new : Core) (room : Flags) → RoomIsKept old room → orders_of new ≡ orders_of old → RoomIsKept (counted new) (no_flags (length room.vcpus) (length room.callers))
@@ -121,3 +131,23 @@ stepped old new room a t = record { present = t.present; unblocked = t.unblocked
 
 pub kicked : (old new : Core) (v : ℕ) (room : Flags) → Kicked old new v → Kicks (seen_of old room) (seen_of (counted new) (no_flags (length room.vcpus) (length room.callers))) v
 kicked old new v room t = record { was_pending = t.was_pending; moves = moved old new room (Vcpu v) true t.turned }
+
+-- a vCPU with room is ready for a turn
+pub vcpu_ready : (k : Core) (room : Flags) (v : ℕ) (m : Seen) → seen_of k room ≡ m → Settled k → RoomIsKept k room → v < m.orders.setup.vcpus → flag_of m.room (Vcpu v) ≡ true → m.turns < 18446744073709551615 → IsReady k (Vcpu v)
+vcpu_ready k room v m e s r actor flag few = record {
+  settled = s;
+  actor_is = subst (λ (x : Seen). v < x.orders.setup.vcpus) (sym e) actor;
+  room = r.roomy (Vcpu v) (subst (λ (x : Seen). flag_of x.room (Vcpu v) ≡ true) (sym e) flag);
+  counted = subst (λ (x : Seen). x.turns < 18446744073709551615) (sym e) few;
+}
+
+-- a deposit
+pub deposits : (old new : Core) (v : ℕ) (x : Sighting) (room : Flags) → Deposited old new v x → Deposits (seen_of old room) (seen_of (counted new) (no_flags (length room.vcpus) (length room.callers))) v x
+deposits old new v x room t = record {
+  orders = t.orders;
+  past = t.past_is;
+  by_tables = t.by_tables;
+  right = right (orders_of new) new.log.past t.ruled;
+  turns = ap (λ (n : ℕ). n + 1) t.turns;
+  room = refl;
+}

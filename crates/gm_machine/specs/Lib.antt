@@ -1,4 +1,5 @@
 pub mod Blockers
+pub mod Deposits
 pub mod Flags
 pub mod Played
 pub mod Room

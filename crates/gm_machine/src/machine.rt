@@ -2,19 +2,22 @@
 
 ghost use Rattle.std.specs.Prelude.{◌≡◌, ◌+◌, ◌-◌, ◌^◌, ◌<◌, ◌≤◌, true, false, [], length, reverse, OnOk, OnErr, IfOk};
 ghost use Rattle.gm_base.specs.Scripts.{IsOf};
+ghost use Rattle.gm_base.specs.declared.values.Actor.TheVariants.{Vcpu};
 ghost use Rattle.gm_flat.specs.Histories.{gone};
 ghost use Rattle.gm_flat.specs.InTypes.{AreInTypes};
 ghost use Rattle.gm_flat.specs.Mappings.{pending};
 ghost use Rattle.gm_flat.specs.RightHistory.{Right};
 ghost use Rattle.gm_laws.specs.Turns.{IsNewTurn};
+ghost use Rattle.gm_machine.specs.Deposits.{Deposits};
 ghost use Rattle.gm_machine.specs.Flags.{flag_of, with_flag, no_flags};
 ghost use Rattle.gm_machine.specs.Steps.{IsVcpu, StepsTo};
+ghost use Rattle.gm_turns.specs.Depositing.{IsTrueSight};
 
 use crate::flags::ActorFlags;
 use gm_base::{Actor, NoMemory, Setup};
-use gm_flat::Entry;
+use gm_flat::{Entry, Sighting};
 use gm_script::Script;
-use gm_turns::{Core, How, Outcome, fresh, kick, make_room, take_turn};
+use gm_turns::{Core, How, Outcome, deposit, fresh, kick, make_room, take_turn};
 use std::alloc::Global;
 use std::marker::Model;
 
@@ -105,6 +108,23 @@ impl Machine {
                 Actor::Caller(_) => unreachable!(),
             },
         }
+    }
+
+    /// Writes a sample and a look of a fault that has only missed, in one turn, and answers `Moved`. It takes no memory.
+    /// The sighting may have been made earlier: it must be true of the vCPU's fault for positions from its miss on. The
+    /// turn uses up all room.
+    pub fn deposit(&mut self, vcpu: u32, sight: Sighting) -> Outcome
+        requires actor { vcpu < self.old.orders.setup.vcpus }
+        requires room { flag_of self.old.room (Vcpu vcpu) ≡ true }
+        requires turns { self.old.turns < 2 ^ 64 - 1 }
+        requires true_sight { IsTrueSight vcpu sight self.old.past }
+        ensures outcome { result ≡ Outcome.Moved }
+        ensures deposits { Deposits self.old self.new vcpu sight }
+    {
+        deposit(&mut self.core, vcpu, sight);
+        self.core.turns += 1;
+        self.room.clear();
+        Outcome::Moved
     }
 
     /// Counts a turn that wrote nothing.

@@ -4,19 +4,21 @@ ghost use Rattle.std.specs.Prelude.{◌≡◌, ◌<◌, ◌↔◌, IfSome, IsTru
 ghost use Rattle.gm_base.specs.Scripts.{IsOf, commands_of};
 ghost use Rattle.gm_flat.specs.Attribute.{attr_of};
 ghost use Rattle.gm_flat.specs.FlatState.{cached, in_use};
-ghost use Rattle.gm_flat.specs.Histories.{call};
+ghost use Rattle.gm_flat.specs.Histories.{call, fault};
 ghost use Rattle.gm_flat.specs.Invalidation.{count};
 ghost use Rattle.gm_flat.specs.Replay.{flat};
 ghost use Rattle.gm_flat.specs.RightOrder.{Departs};
 ghost use Rattle.gm_flat.specs.Slots.{slot_by_id, slot_over};
+ghost use Rattle.gm_laws.specs.Counting.{ends};
 ghost use Rattle.gm_machine.specs.Blockers.{BlockerGoesOn, blocker_in};
 ghost use Rattle.gm_machine.specs.Steps.{Seen, StepsTo};
 ghost use Rattle.gm_turns.specs.Waiting.{IsBlocker};
 ghost use Rattle.gm_turns.specs.declared.outcome.How.TheVariants.{Next};
 ghost use Rattle.gm_turns.specs.declared.outcome.Outcome.{Outcome};
+ghost use Rattle.gm_vcpus.specs.Asks.{asked_in};
 
 use crate::machine::Machine;
-use gm_base::{Actor, Command, Folio, Kind, Page};
+use gm_base::{Access, Actor, Command, Folio, Kind, Page};
 use gm_flat::SlotView;
 use gm_turns::{Blocker, blocker, has_command};
 
@@ -64,6 +66,22 @@ impl Machine {
         ensures { result ≡ count self.now.past }
     {
         self.core.mmu.count()
+    }
+
+    /// The access of the vCPU's fault and the position after its miss, exactly where the vCPU's last entry, flushes aside,
+    /// is a miss. The vCPU must be one of the setup's.
+    pub fn asked(&self, vcpu: u32) -> Option<(Access, u64)>
+        requires { vcpu < self.now.orders.setup.vcpus }
+        ensures { result ≡ asked_in (fault vcpu self.now.past) }
+    {
+        self.core.vcpus.asked(vcpu)
+    }
+
+    /// How many brackets ended.
+    pub fn sequence(&self) -> u64
+        ensures { result ≡ ends self.now.past }
+    {
+        self.core.mmu.seq()
     }
 
     /// The attribute of a page.

@@ -25,6 +25,7 @@ use Rattle.gm_laws.proofs.Kit.{by}
 use Rattle.gm_laws.proofs.RuledIsRight.{right}
 use Rattle.gm_laws.proofs.SlotsKeep.{all_map, slots_now}
 use Rattle.gm_laws.specs.May.{May}
+use Rattle.gm_laws.specs.SmallSlots.{IsSmall}
 use Rattle.gm_mapping.proofs.Quiet as mapping
 use Rattle.gm_state.specs.Stand.{IsBounded}
 use Rattle.gm_turns.proofs.Freed.{freeing_entry, still_used}
@@ -40,7 +41,7 @@ use Rattle.gm_vcpus.proofs.Holders.{holds_exit, holds_look, holds_retry_looked, 
 use Rattle.gm_vcpus.proofs.Moves as moves
 use Rattle.gm_vcpus.proofs.Sighting.{looks_here, may_look, may_sample}
 use Rattle.gm_vcpus.specs.Holds.{holds_of}
-use Rattle.gm_vcpus.specs.Sights.{CanBeSeen, IsSmall, look_at, look_entry}
+use Rattle.gm_vcpus.specs.Sights.{CanBeSeen, look_at, look_entry}
 use Rattle.gm_vcpus.specs.Stages.{stage_of}
 use Rattle.gm_vcpus.specs.Vcpus.{exited, getting, looking, no_vcpu, sampling, settled, vcpu_at}
 use Rattle.gm_vcpus.specs.declared.stage.Stage.{Stage}

@@ -81,15 +81,18 @@ from_folio k v p a f first t lt i e at s =
     }
 
 -- a miss
-pub miss_turn : (k : Core) (v : ℕ) (a : Aim) → IsReady k (Vcpu v) → (vcpu_at k.vcpus v).fault ≡ None → inside v k.log.past ≡ true → next_command (orders_of k) (Vcpu v) k.log.past ≡ Some (TouchCommand a) → served k.mmu v a (length k.log.past) ≡ None → Turned k (noted (record k { vcpus = set k.vcpus v (missing (vcpu_at k.vcpus v) a); mmu = seated k.mmu v false }) (Vcpu v) (Miss a)) (Vcpu v) false
-miss_turn k v a r none i command e =
+after_miss : (n m : ℕ) → n ≡ m → n + 1 ≡ suc m
+after_miss n m h = omega arith
+
+pub miss_turn : (k : Core) (v : ℕ) (a : Aim) (n : ℕ) → n ≡ length k.log.past → IsReady k (Vcpu v) → (vcpu_at k.vcpus v).fault ≡ None → inside v k.log.past ≡ true → next_command (orders_of k) (Vcpu v) k.log.past ≡ Some (TouchCommand a) → served k.mmu v a (length k.log.past) ≡ None → Turned k (noted (record k { vcpus = set k.vcpus v (missing (vcpu_at k.vcpus v) a (n + 1)); mmu = seated k.mmu v false }) (Vcpu v) (Miss a)) (Vcpu v) false
+miss_turn k v a n here r none i command e =
     let st = r.settled.stands in
     let entry = by (k.turns + 1) (Vcpu v) (Miss a) in
     let u = unserved v a k.log.past st.mapping r.actor_is e in
-    one_entry k (noted (record k { vcpus = set k.vcpus v (missing (vcpu_at k.vcpus v) a); mmu = seated k.mmu v false }) (Vcpu v) (Miss a)) (Vcpu v) (Miss a) false r
+    one_entry k (noted (record k { vcpus = set k.vcpus v (missing (vcpu_at k.vcpus v) a (n + 1)); mmu = seated k.mmu v false }) (Vcpu v) (Miss a)) (Vcpu v) (Miss a) false r
     (record {
       stands = record {
-        vcpus = moves.misses (k.turns + 1) v a st.vcpus r.actor_is;
+        vcpus = moves.misses (k.turns + 1) v a (n + 1) st.vcpus r.actor_is (after_miss n (length k.log.past) here);
         callers = callers.quiet entry k.log.past refl st.callers;
         mapping = missed (k.turns + 1) v a k.log.past st.mapping r.actor_is;
         state = state.state_same entry k.log.past refl (λ serial. holds_miss serial (k.turns + 1) v a st.vcpus r.actor_is none) st.state;

@@ -9,6 +9,7 @@ pub mod CallTurns
 pub mod ChangeNeeds
 pub mod ChangeTurns
 pub mod DeadFolios
+pub mod Depositing
 pub mod DueFolios
 pub mod FaultTurns
 pub mod FewDue

@@ -1,5 +1,6 @@
 pub mod Ahead
 pub mod Brackets
+pub mod Depositing
 pub mod Faulting
 pub mod Foretold
 pub mod HasMoreRoom

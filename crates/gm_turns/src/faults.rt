@@ -83,7 +83,7 @@ fn look(core: &mut Core, v: u32, page: Page, sampled: Sampled)
 }
 
 // The entry of a look.
-fn look_of(looked: Looked) -> What
+pub(crate) fn look_of(looked: Looked) -> What
     ensures { result ≡ look_entry looked }
 {
     What::Look {

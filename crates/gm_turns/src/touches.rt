@@ -49,7 +49,8 @@ fn miss(core: &mut Core, v: u32, access: Access)
     requires unserved { served core.old.mmu v access (length core.old.log.past) ≡ None }
     ensures { Turned core.old core.new (Vcpu v) false }
 {
-    core.vcpus.miss(v, access);
+    let after = core.log.position() + 1;
+    core.vcpus.miss(v, access, after);
     core.mmu.leave(v);
     note(core, Actor::Vcpu(v), What::Miss { access });
 }

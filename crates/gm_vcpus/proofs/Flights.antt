@@ -8,8 +8,9 @@ use Rattle.gm_flat.specs.declared.effect.Backing.{Backing}
 use Rattle.gm_flat.specs.declared.entry.Entry.{Entry}
 use Rattle.gm_flat.specs.declared.views.Looked.{Looked}
 use Rattle.gm_flat.specs.declared.views.Sampled.{Sampled}
+use Rattle.gm_vcpus.specs.Asks.{asked_at, asked_by, asked_in}
 use Rattle.gm_vcpus.specs.Stages.{stage_by, stage_of}
-use Rattle.gm_vcpus.specs.Stand.{FaultIs, LookIs, SampleIs, StageIs, TicketIs, VcpusStand}
+use Rattle.gm_vcpus.specs.Stand.{FaultIs, LookIs, MissedIs, SampleIs, StageIs, TicketIs, VcpusStand}
 use Rattle.gm_vcpus.specs.Vcpus.{no_vcpu, vcpu_at}
 use Rattle.gm_vcpus.specs.declared.stage.Stage.{Stage}
 use Rattle.gm_vcpus.specs.declared.stage.Stage.TheVariants as at
@@ -102,3 +103,45 @@ by_fault user v k (Some j) (Faulting a missed s l g) past e f h =
 pub flight : {s : Setup} {vs : List Vcpu} {past : List Entry} (v : ℕ) (k : Ticket) (t : Stage) → VcpusStand s vs past → v < s.vcpus → (vcpu_at vs v).fault ≡ Some k → stage_of k ≡ t → Flies s.user v k t past
 flight {s = s} {vs = vs} {past = past} v k t st lt e is =
     subst (λ (z : Stage). Flies s.user v k z past) is (by_fault s.user v k (vcpu_at vs v).fault (fault v past) past e refl (st.each v no_vcpu lt).fault_is)
+
+-- a ticket of a fault that has only missed
+pub record OnlyMissed (o : Option Ticket) (a : Aim) : Type 0 where
+  pub ticket : Ticket
+  pub held : o ≡ Some ticket
+  pub stage_is : stage_of ticket ≡ at.Missed
+  pub access_is : ticket.access ≡ a
+
+none_yet : (user page missed : ℕ) (x : Option Sampled) (y : Option Looked) (b : Option Backing) (past : List Entry) → StageIs user page missed x y b None None None past → stage_by x y b ≡ at.Missed
+none_yet user page missed None y b past h = refl
+none_yet user page missed (Some x) None None past h = absurd h
+none_yet user page missed (Some x) None (Some b) past h = absurd h
+none_yet user page missed (Some x) (Some y) None past h = absurd h
+none_yet user page missed (Some x) (Some y) (Some b) past h = absurd h
+
+only_by : (user : ℕ) (o : Option Ticket) (a : Aim) (missed : ℕ) (past : List Entry) → FaultIs user o (Faulting a missed None None None) past → OnlyMissed o a
+only_by user None a missed past h = absurd h
+only_by user (Some k) a missed past h = record { ticket = k; held = refl; stage_is = none_yet user a.page missed k.sampled k.looked k.backing past h.stage_is; access_is = h.access_is }
+
+-- a fault of the history that has only missed is in flight
+pub only_missed : {s : Setup} {vs : List Vcpu} {past : List Entry} (v : ℕ) (a : Aim) (missed : ℕ) → VcpusStand s vs past → v < s.vcpus → fault v past ≡ Faulting a missed None None None → OnlyMissed (vcpu_at vs v).fault a
+only_missed {s = s} {vs = vs} {past = past} v a missed st lt e =
+    only_by s.user (vcpu_at vs v).fault a missed past (subst (λ (x : Fault). FaultIs s.user (vcpu_at vs v).fault x past) e (st.each v no_vcpu lt).fault_is)
+
+-- what a ticket asks for, its fault does
+asked_stage : (user : ℕ) (k : Ticket) (n : ℕ) (a : Aim) (missed : ℕ) (x : Option Sampled) (y : Option Looked) (b : Option Backing) (s : Option ℕ) (l : Option Seen) (g : Option Gotten) (past : List Entry) → k.access ≡ a → n ≡ missed → StageIs user a.page missed x y b s l g past → asked_at (stage_by x y b) k.access n ≡ asked_in (Faulting a missed s l g)
+asked_stage user k n a missed None None None None None None past e f h = rw (e, f) refl
+asked_stage user k n a missed (Some x) None None (Some s) None None past e f h = refl
+asked_stage user k n a missed (Some x) (Some y) None (Some s) (Some l) None past e f h = refl
+asked_stage user k n a missed (Some x) (Some y) (Some b) (Some s) (Some l) (Some g) past e f h = refl
+asked_stage user k n a missed x y b s l g past e f h = absurd h
+
+asked_fault : (user : ℕ) (o : Option Ticket) (n : ℕ) (x : Fault) (past : List Entry) → FaultIs user o x past → MissedIs n x → asked_by o n ≡ asked_in x
+asked_fault user None n NoFault past h e = refl
+asked_fault user None n (Faulting a missed s l g) past h e = absurd h
+asked_fault user (Some k) n NoFault past h e = absurd h
+asked_fault user (Some k) n (Faulting a missed s l g) past h e = asked_stage user k n a missed k.sampled k.looked k.backing s l g past h.access_is e h.stage_is
+
+pub asked_is : {s : Setup} {vs : List Vcpu} {past : List Entry} (v : ℕ) → VcpusStand s vs past → v < s.vcpus → asked_by (vcpu_at vs v).fault (vcpu_at vs v).missed ≡ asked_in (fault v past)
+asked_is {s = s} {vs = vs} {past = past} v st lt =
+    let x = st.each v no_vcpu lt in
+    asked_fault s.user (vcpu_at vs v).fault (vcpu_at vs v).missed (fault v past) past x.fault_is x.missed_is

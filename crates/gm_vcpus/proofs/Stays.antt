@@ -16,7 +16,7 @@ use Rattle.gm_flat.specs.declared.views.Looked.{Looked}
 use Rattle.gm_flat.specs.declared.views.Sampled.{Sampled}
 use Rattle.gm_laws.proofs.Counted.{ends_keep}
 use Rattle.gm_laws.proofs.Kit.{flat_at_keep}
-use Rattle.gm_vcpus.specs.Stand.{FaultIs, LookIs, SampleIs, StageIs, VcpuIs, VcpusStand, moves_vcpus}
+use Rattle.gm_vcpus.specs.Stand.{FaultIs, LookIs, MissedIs, SampleIs, StageIs, VcpuIs, VcpusStand, moves_vcpus}
 use Rattle.gm_vcpus.specs.Vcpus.{no_vcpu}
 use Rattle.gm_vcpus.specs.declared.vcpu.Vcpu.{Vcpu}
 
@@ -135,6 +135,7 @@ pub vcpu_stays : (s : Setup) (x : Vcpu) (v : ℕ) (e : Entry) (past : List Entry
 vcpu_stays s x v e past t h = record {
   ended_is = h.ended_is ∙ sym (ap (λ (b : Bool). cond b (suc (done (OfVcpu v) past)) (done (OfVcpu v) past)) t.none_done);
   gone_is = h.gone_is ∙ sym (ap (λ (b : Bool). cond b true (gone (OfVcpu v) past)) t.none_gone);
+  missed_is = subst (MissedIs x.missed) (sym (t.fault_stays (length past) (fault v past))) h.missed_is;
   fault_is = subst (λ (y : Fault). FaultIs s.user x.fault y (e ∷ past)) (sym (t.fault_stays (length past) (fault v past))) (fault_later s.user x.fault (fault v past) e past h.fault_is);
 }
 
@@ -155,6 +156,6 @@ all_idle (suc n) (suc v) d h = all_idle n v d (omega arith)
 pub opens : (s : Setup) → VcpusStand s (replicate s.vcpus no_vcpu) []
 opens s = record {
   count_is = length-replicate s.vcpus no_vcpu;
-  each = λ v d lt. subst (λ (x : Vcpu). VcpuIs s x v []) (sym (all_idle s.vcpus v d lt)) (record { ended_is = refl; fault_is = tt; gone_is = refl });
+  each = λ v d lt. subst (λ (x : Vcpu). VcpuIs s x v []) (sym (all_idle s.vcpus v d lt)) (record { ended_is = refl; fault_is = tt; missed_is = tt; gone_is = refl });
   none_beyond = λ v le. refl;
 }

@@ -1,3 +1,4 @@
+pub mod Asks
 pub mod Vcpus
 pub mod Stages
 pub mod Stand

@@ -1,5 +1,5 @@
 -- What a fault sees of the slots and attributes of now.
-use Rattle.std.specs.Prelude.{ℕ, ◌+◌, ◌≤◌}
+use Rattle.std.specs.Prelude.{ℕ, ◌≤◌}
 use Rattle.gm_base.specs.declared.numbers.TheConstants.{PAGE_LIMIT}
 use Rattle.gm_flat.specs.Attribute.{attr_of}
 use Rattle.gm_flat.specs.FlatState.{Flat}
@@ -8,8 +8,8 @@ use Rattle.gm_flat.specs.Slots.{slot_over}
 use Rattle.gm_flat.specs.declared.entry.What.{What}
 use Rattle.gm_flat.specs.declared.entry.What.TheVariants.{Look}
 use Rattle.gm_flat.specs.declared.views.Looked.{Looked}
-use Rattle.gm_flat.specs.declared.views.SlotView.{SlotView}
 use Rattle.gm_laws.specs.SlotsStand.{AllOf, SlotsStand}
+use Rattle.gm_laws.specs.SmallSlots.{IsSmall}
 
 -- the slot over a page and the page's attribute, at a position
 abbrev pub look_at : Flat → ℕ → ℕ → Looked
@@ -18,12 +18,6 @@ look_at f page here = record { at = here; slot = slot_over f.slots page; attr = 
 -- the entry of a look
 abbrev pub look_entry : Looked → What
 look_entry z = Look z.at (id_of z.slot) z.attr (file_of z.slot)
-
--- the slot's guest pages and indexes are below 2^52, and its user pages are ones of the machine
-pub record IsSmall (user : ℕ) (s : SlotView) : Type 0 where
-  pub pages : s.base + s.pages ≤ PAGE_LIMIT
-  pub users : s.user + s.pages ≤ user
-  pub indexes : s.index + s.pages ≤ PAGE_LIMIT
 
 -- what a look wants of slots
 pub record CanBeSeen (user : ℕ) (f : Flat) : Type 0 where

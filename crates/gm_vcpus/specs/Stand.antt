@@ -81,10 +81,16 @@ FaultIs user None (Faulting a missed s l g) past = ⊥
 FaultIs user (Some k) NoFault past = ⊥
 FaultIs user (Some k) (Faulting a missed s l g) past = TicketIs user k a missed s l g past
 
--- a vCPU: its commands that are ended, its fault, and whether it is gone
+-- while a fault is in flight, this is the position after its miss
+abbrev pub MissedIs : ℕ → Fault → Type 0
+MissedIs n NoFault = Unit {0}
+MissedIs n (Faulting a missed s l g) = n ≡ missed
+
+-- a vCPU: its commands that are ended, its fault, where that missed, and whether it is gone
 pub record VcpuIs (s : Setup) (x : Vcpu) (v : ℕ) (past : List Entry) : Type 0 where
   pub ended_is : x.ended ≡ done (OfVcpu v) past
   pub fault_is : FaultIs s.user x.fault (fault v past) past
+  pub missed_is : MissedIs x.missed (fault v past)
   pub gone_is : x.gone ≡ gone (OfVcpu v) past
 
 -- as many as the setup has, each as the history tells; beyond them no fault is in flight

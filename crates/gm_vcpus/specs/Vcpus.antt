@@ -9,7 +9,7 @@ use Rattle.gm_vcpus.specs.declared.vcpu.Vcpu.{Vcpu}
 
 -- one that has done nothing yet
 abbrev pub no_vcpu : Vcpu
-no_vcpu = record { ended = 0; fault = None; gone = false }
+no_vcpu = record { ended = 0; fault = None; missed = 0; gone = false }
 
 -- the vCPU of a number
 abbrev pub vcpu_at : List Vcpu → ℕ → Vcpu
@@ -19,9 +19,9 @@ vcpu_at vs v = slice_index_or vs v no_vcpu
 abbrev pub fresh_ticket : Aim → Ticket
 fresh_ticket a = record { access = a; sampled = None; looked = None; backing = None }
 
--- its access has missed
-abbrev pub missing : Vcpu → Aim → Vcpu
-missing x a = record x { fault = Some (fresh_ticket a) }
+-- its access has missed, and this is the position after the miss
+abbrev pub missing : Vcpu → Aim → ℕ → Vcpu
+missing x a after = record x { fault = Some (fresh_ticket a); missed = after }
 
 -- its fault has sampled the sequence
 abbrev pub with_sampled : Sampled → Option Ticket → Option Ticket

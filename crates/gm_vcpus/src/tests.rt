@@ -22,7 +22,8 @@ fn a_fault_from_miss_to_install(rt: HostRuntime) -> Result<(), Fail> {
         slot: None,
         attr: Kind::Shared,
     };
-    vcpus.miss(1, access);
+    vcpus.miss(1, access, 3);
+    assert_eq!(rt; vcpus.asked(1), Some((access, 3)));
     vcpus.sample(1, sampled);
     vcpus.look(1, looked);
     vcpus.get(1, Backing::User(9));

@@ -1,8 +1,10 @@
 //! The vCPUs.
 
 ghost use Rattle.std.specs.Prelude.{◌≡◌, ◌+◌, ◌<◌, ◌^◌, IfOk, IsSome, length, replicate, slice_set};
+ghost use Rattle.gm_vcpus.specs.Asks.{asked_by};
 ghost use Rattle.gm_vcpus.specs.Vcpus.{no_vcpu, vcpu_at, missing, sampling, looking, getting, settled, touched, exited, leaving};
 
+use crate::stage::{Stage, stage_of};
 use crate::vcpu::Vcpu;
 use gm_base::{Access, NoMemory};
 use gm_fault::Ticket;
@@ -33,6 +35,7 @@ impl Vcpus {
         let idle = Vcpu {
             ended: 0,
             fault: None,
+            missed: 0,
             gone: false,
         };
         let list = vec![in alloc; idle; count as usize]?;
@@ -45,6 +48,21 @@ impl Vcpus {
         ensures { result ≡ (vcpu_at self.now v).fault }
     {
         self.list[v as usize].fault
+    }
+
+    /// The access of the vCPU's fault and the position right after its miss, where the fault has only missed.
+    pub fn asked(&self, v: u32) -> Option<(Access, u64)>
+        requires { v < length self.now }
+        ensures { result ≡ asked_by (vcpu_at self.now v).fault (vcpu_at self.now v).missed }
+    {
+        let vcpu = &self.list[v as usize];
+        match vcpu.fault {
+            Some(ticket) => match stage_of(&ticket) {
+                Stage::Missed => Some((ticket.access, vcpu.missed)),
+                _ => None,
+            },
+            None => None,
+        }
     }
 
     /// How many commands the vCPU has ended.
@@ -63,17 +81,19 @@ impl Vcpus {
         self.list[v as usize].gone
     }
 
-    /// The vCPU's access is a fault now.
-    pub fn miss(&mut self, v: u32, access: Access)
+    /// The vCPU's access is a fault now, and this is the position right after its miss.
+    pub fn miss(&mut self, v: u32, access: Access, after: u64)
         requires { v < length self.old }
-        ensures { self.new ≡ slice_set self.old v (missing (vcpu_at self.old v) access) }
+        ensures { self.new ≡ slice_set self.old v (missing (vcpu_at self.old v) access after) }
     {
-        self.list[v as usize].fault = Some(Ticket {
+        let vcpu = &mut self.list[v as usize];
+        vcpu.fault = Some(Ticket {
             access,
             sampled: None,
             looked: None,
             backing: None,
         });
+        vcpu.missed = after;
     }
 
     /// The vCPU's fault has sampled the sequence.
