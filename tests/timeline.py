@@ -611,8 +611,8 @@ def main():
     files = [(path.stem, path.read_bytes()) for path in sorted(EXAMPLES.glob('*.history'))]
     outputs = [(path.parent.name, path.read_bytes()) for path in sorted((TOP / 'tests' / 'rows').glob('*/stdout'))]
     by_hand = [(name, text.lstrip('\n').encode()) for name, text in [*WORKED.items(), *BY_HAND.items()]]
-    # a script that is refused has one line for an output, and no history
-    written = [(name, text) for name, text in [*files, *outputs] if not text.startswith(b'bad ') and text]
+    # a script that is refused, and one that a number stands for, has one line for an output, and no history
+    written = [(name, text) for name, text in [*files, *outputs] if not text.startswith((b'bad ', b'bulk ')) and text]
     histories = [*written, *by_hand]
     histories += [('the history with no wrong line', GOOD.encode()), ('2,000 entries', long_history(2000))]
     results = [(name, history_result(name, text)) for name, text in histories]

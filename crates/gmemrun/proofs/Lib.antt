@@ -1,4 +1,5 @@
 pub mod Coming
 pub mod Complete
 pub mod Exactly
+pub mod Numbered
 pub mod Upward

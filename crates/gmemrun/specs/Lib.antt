@@ -1,3 +1,4 @@
+pub mod Bulk
 pub mod Coming
 pub mod Migrating
 pub mod Reading

@@ -1,7 +1,9 @@
 //! `gmemrun steps` reads a script from standard input and writes the history of its turns to standard output;
-//! `gmemrun migrate` reads a history of version 1 and writes it in version 2.
+//! `gmemrun migrate` reads a history of version 1 and writes it in version 2; `gmemrun bulk N` plays the script that the
+//! number N stands for, and writes the line of what its history comes to.
 #![tactic(auto)]
 
+mod bulk;
 mod migrating;
 mod read;
 mod refusal;
@@ -9,6 +11,7 @@ mod status;
 mod steps;
 mod top;
 
+pub use bulk::{BULK_TURNS, run_bulk};
 use gm_io::{OpenGate, ReaderSource, WriterSink};
 pub use migrating::run_migrate;
 pub use status::Status;

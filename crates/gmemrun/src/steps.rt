@@ -65,8 +65,8 @@ fn run_bytes<K: Sink>(alloc: Global, bytes: &[u8], sink: &mut K) -> Status
     }
 }
 
-// A machine that has taken the script's turns.
-fn play(alloc: Global, script: &Script) -> Result<Machine, NoMemory>
+/// A machine that has taken the script's turns.
+pub(crate) fn play(alloc: Global, script: &Script) -> Result<Machine, NoMemory>
     ensures orders { IfOk result (λ m. m.orders ≡ script.now.orders) }
     ensures plays { IfOk result (λ m. PlaysTurns script.now.orders (reverse script.now.turns) m.past) }
     ensures turns { IfOk result (λ m. m.turns ≡ length script.now.turns) }

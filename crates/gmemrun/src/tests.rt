@@ -1,5 +1,6 @@
 use super::*;
 
+mod bulk;
 mod cuts;
 mod faults;
 mod migrations;
