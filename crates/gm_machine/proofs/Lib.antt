@@ -1,3 +1,4 @@
+pub mod Seeing
 pub mod Actors
 pub mod Flagging
 pub mod GoingOn

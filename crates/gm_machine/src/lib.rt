@@ -3,12 +3,13 @@
 
 mod crossing;
 mod flags;
+mod foretelling;
 mod laws;
 mod machine;
 mod pushing;
 mod telling;
 
 pub use crossing::machines_cross_threads;
-pub use gm_turns::{Blocker, How, Outcome};
+pub use gm_turns::{Ahead, Blocker, How, Outcome};
 pub use laws::{blockers_can_go_on, pushes_keep_right, turns_play};
 pub use machine::Machine;
