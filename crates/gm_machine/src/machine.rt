@@ -110,9 +110,9 @@ impl Machine {
         }
     }
 
-    /// Writes a sample and a look of a fault that has only missed, in one turn, and answers `Moved`. It takes no memory.
-    /// The sighting may have been made earlier: it must be true of the vCPU's fault for positions from its miss on. The
-    /// turn uses up all room.
+    /// Writes a sample and a look of a fault that has only missed, in one turn, and answers `Moved`. It takes no
+    /// memory. The sighting may have been made earlier: it must be true of the vCPU's fault for positions from its miss
+    /// on. The turn uses up all room.
     pub fn deposit(&mut self, vcpu: u32, sight: Sighting) -> Outcome
         requires actor { vcpu < self.old.orders.setup.vcpus }
         requires room { flag_of self.old.room (Vcpu vcpu) ≡ true }

@@ -68,8 +68,8 @@ impl Machine {
         self.core.mmu.count()
     }
 
-    /// The access of the vCPU's fault and the position after its miss, exactly where the vCPU's last entry, flushes aside,
-    /// is a miss. The vCPU must be one of the setup's.
+    /// The access of the vCPU's fault and the position after its miss, exactly where the vCPU's last entry, flushes
+    /// aside, is a miss. The vCPU must be one of the setup's.
     pub fn asked(&self, vcpu: u32) -> Option<(Access, u64)>
         requires { vcpu < self.now.orders.setup.vcpus }
         ensures { result ≡ asked_in (fault vcpu self.now.past) }

@@ -1,5 +1,5 @@
 -- The turn of a fault that takes a sighting.
-use Rattle.std.proofs.Common.{◌≡◌, ℕ, ◌+◌, ◌<◌, ◌≤◌, List, [], ◌∷◌, length, set, suc, Option, Some, None, arith, subst, sym, ◌∙◌, ap, refl, false}
+use Rattle.std.proofs.Common.{◌≡◌, ℕ, ◌+◌, ◌<◌, ◌≤◌, List, ◌∷◌, length, set, suc, Option, Some, None, arith, subst, sym, ◌∙◌, ap, refl}
 use Rattle.std.proofs.lemmas.List.{get_or-set_same}
 use Rattle.std.specs.Prelude.{IsSome}
 use Rattle.gm_base.specs.Aim.{Aim}
