@@ -1,5 +1,5 @@
 -- Where too many bytes were taken, or the whole line of a refusal was put, the run says so.
-use Rattle.std.proofs.Common.{◌+◌, ◌++◌, ◌<◌, ◌≤◌, IfSome, List, None, Option, Some, [], ap, arith, length, refl, subst, sym, ℕ, ◌∙◌, ◌∷◌, ◌≡◌}
+use Rattle.std.proofs.Common.{◌+◌, ◌++◌, ◌<◌, ◌≤◌, IfSome, List, None, Option, Some, [], ap, arith, length, subst, sym, ℕ, ◌∙◌, ◌∷◌, ◌≡◌}
 use Rattle.std.specs.Io.KnownBytes.{Consumes}
 use Rattle.gm_io.specs.Held.{GainsFront}
 use Rattle.gm_script.specs.Grammar.{script_of, Bad}

@@ -1,5 +1,5 @@
 -- What a run that brings a history up comes to.
-use Rattle.std.proofs.Common.{◌≡◌, ◌<◌, ◌≤◌, ◌+◌, ◌⊎◌, inl, inr, IfSome, List, None, Option, Some, ap, arith, length, ltb, refl, sym, true, false, Bool, ℕ, ◌∙◌}
+use Rattle.std.proofs.Common.{◌≡◌, ◌<◌, ◌≤◌, inl, IfSome, List, None, Option, Some, ap, arith, length, ltb, refl, true, false, Bool, ℕ, ◌∙◌}
 use Rattle.std.proofs.lemmas.Bool.Decides.{nat_tests}
 use Rattle.std.specs.Prelude.{codes}
 use Rattle.gm_history.specs.Refusals.{IsRefused}
@@ -11,7 +11,7 @@ use Rattle.gmemrun.specs.Coming.{PutAll}
 use Rattle.gmemrun.specs.Migrating.{MigrateDue, MigrateEndsAs, MigrateEndsBy}
 use Rattle.gmemrun.specs.Refusal.{bad_history_text}
 use Rattle.gmemrun.specs.declared.status.Status.{Status}
-use Rattle.gmemrun.specs.declared.status.Status.TheVariants.{Ok, NoMemory, BadHistory}
+use Rattle.gmemrun.specs.declared.status.Status.TheVariants.{Ok, BadHistory}
 
 pub migrate_text : HasText MigrateDue BadHistory
 migrate_text bytes text due = some_line due.line (codes "history") text due.is_text

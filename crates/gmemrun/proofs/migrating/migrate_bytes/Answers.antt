@@ -1,8 +1,7 @@
 -- What migrating put, or why it stopped.
 use Rattle.std.proofs.Common.{◌≡◌, List, Option, subst, sym, refl, ℕ, IfSome}
-use Rattle.gm_history.specs.Migrating.{PutsFront, StoppedAs}
+use Rattle.gm_history.specs.Migrating.{PutsFront}
 use Rattle.gm_history.specs.Refusals.{IsRefused}
-use Rattle.gm_history.specs.declared.error.MigrateError.TheVariants.{BadText, Failed, NoMemory as Wanted}
 use Rattle.gm_history.specs.declared.version.Version.TheVariants.{One}
 use Rattle.gm_io.specs.Causes.{Rose}
 use Rattle.gm_io.specs.Held.{GainsFront}

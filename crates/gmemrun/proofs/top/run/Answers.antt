@@ -1,5 +1,5 @@
 -- The number of the words is the one that was read, and no words are of two kinds.
-use Rattle.std.proofs.Common.{◌≡◌, ℕ, refl, subst}
+use Rattle.std.proofs.Common.{ℕ, refl, subst}
 use Rattle.gm_gen.specs.Workload.{workload_text}
 use Rattle.gmemrun.proofs.Numbered.{never_read, never_usage, one_number}
 use Rattle.gmemrun.specs.Bulk.{BulkDue}
