@@ -120,7 +120,7 @@ pub begin_foretold : (k : Core) (c : ℕ) (a : Ahead) → IsReady k (Caller c) �
 begin_foretold k c a r present at loud seq counted range =
     foretold_some k c a r present (unblocked_begin (orders_of k) c at.0 st.callers r.actor_is at.1)
     (λ ws x. same_ahead a.at l.at a.effect l.effect a.seq (ends past) a.count (suc (count past)) a.hull (widened (cond (eqb (count past) 0) None (hull past)) xs)
-        (ap (λ (z : Loud). z.at) is_loud) (ap (λ (z : Loud). z.effect) is_loud) (seq ∙ st.mapping.seq_is) (one_more (count past) (counted ∙ ap (λ (n : ℕ). n + 1) st.mapping.count_is)) (range ∙ (ap (λ (zs : List Extent). widen_all (open_range k.mmu.progress) zs) spans_are ∙ range_would k.mmu.progress (count past) (hull past) xs st.mapping.count_is st.mapping.range_is))
+    (ap (λ (z : Loud). z.at) is_loud) (ap (λ (z : Loud). z.effect) is_loud) (seq ∙ st.mapping.seq_is) (one_more (count past) (counted ∙ ap (λ (n : ℕ). n + 1) st.mapping.count_is)) (range ∙ (ap (λ (zs : List Extent). widen_all (open_range k.mmu.progress) zs) spans_are ∙ range_would k.mmu.progress (count past) (hull past) xs st.mapping.count_is st.mapping.range_is))
     ∙ begun_told (orders_of k) (k.turns + 1) c ws past g.y at.0 xs x g.call_is g.stage.no_bracket planned g.stage.unmade)
   where
     st : CoreStands k
@@ -216,10 +216,10 @@ pages_foretold k c q r at =
     let g = adding_pages c q st.callers r.actor_is at in
     let t = k.turns + 1 in
     foretold_none k c r (λ ws x. pages_told (orders_of k) t c ws past g.y (Paged (pages_of q)) x g.call_is g.stage.no_bracket g.stage.is_judged
-        (λ z. elim z [
-          | inl row ↦ quiet_row t c ws (Page row.0 row.1 row.2 ∷ []) past x.new row.3 refl
-          | inr row ↦ quiet_row t c ws (Answer row.0 ∷ []) past x.new row.1 refl
-        ]))
+    (λ z. elim z [
+      | inl row ↦ quiet_row t c ws (Page row.0 row.1 row.2 ∷ []) past x.new row.3 refl
+      | inr row ↦ quiet_row t c ws (Answer row.0 ∷ []) past x.new row.1 refl
+    ]))
 
 -- of a caller without a call in progress
 pub leaving_foretold : (k : Core) (c : ℕ) → IsReady k (Caller c) → next_command (orders_of k) (Caller c) k.log.past ≡ None → Foretells (orders_of k) (Caller c) (k.turns + 1) k.log.past None
