@@ -64,7 +64,8 @@ def help_checks():
     yield '--help tells the most bytes of a script', f' {most.group(1).replace("_", "")} bytes' in text
     most = re.search(r'MOST_HISTORY_BYTES: usize = ([\d_]+);', (TOP / 'crates/gm_history/src/limits.rt').read_text())
     yield '--help tells the most bytes of a history', f' {most.group(1).replace("_", "")};' in text
-    for words in ('gmemrun steps', 'gmemrun migrate', 'gmemrun bulk 7', 'gmemrun --look steps', 'gmemrun --help'):
+    for words in ('gmemrun steps', 'gmemrun threads', 'gmemrun migrate', 'gmemrun bulk 7', 'gmemrun --look steps',
+                  'gmemrun --help'):
         yield f'--help tells of {words}', re.search(rf'^ +{words} ', text, re.M) is not None
     scripts = re.findall(r'^ +\./gmemrun .*< (\S+)', text, re.M)
     yield '--help has two examples, and their scripts are there', \

@@ -43,7 +43,21 @@ impl Gathered {
 
     /// Appends the bytes. Where 16 KiB wait, they are put first. Where the sink fails, a front of the bytes was
     /// appended, and what the sink hasn't taken still waits.
+    #[inline(always)]
     pub fn add<K: Sink>(&mut self, sink: &mut K, bytes: &[u8]) -> Result<(), Failed>
+        ensures { Adds (outlet (K.held sink.old) self.old (K.faults sink.old)) (outlet (K.held sink.new) self.new (K.faults sink.new)) bytes.now result }
+    {
+        if bytes.len() <= MOST_GATHERED - self.end {
+            write_at(&mut self.bytes, self.end, bytes);
+            self.end += bytes.len();
+            return Ok(());
+        }
+        self.add_by_parts(sink, bytes)
+    }
+
+    // Appends bytes that may need more room than there is.
+    #[inline(never)]
+    fn add_by_parts<K: Sink>(&mut self, sink: &mut K, bytes: &[u8]) -> Result<(), Failed>
         ensures { Adds (outlet (K.held sink.old) self.old (K.faults sink.old)) (outlet (K.held sink.new) self.new (K.faults sink.new)) bytes.now result }
     {
         let mut at = 0;

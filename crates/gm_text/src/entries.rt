@@ -1,38 +1,59 @@
 //! What actors do in their turns.
 
-ghost use Rattle.std.specs.Prelude.{◌++◌, codes};
+ghost use Rattle.std.specs.Prelude.{◌++◌, ◌∷◌, [], codes};
+ghost use Rattle.std.specs.Fmt.{decimal};
 ghost use Rattle.gm_io.specs.Adds.{Adds, outlet};
 ghost use Rattle.gm_flat.specs.declared.entry.What.TheVariants.{Touch, Install, Page as PageTurn, Free};
-ghost use Rattle.gm_text.specs.Text.{access_text, backing_text, get_text, exit_text, span_text, spans_text, what_text};
+ghost use Rattle.gm_text.specs.Text.{joined, access_text, backing_text, get_text, exit_text, level_text, span_text, spans_text, what_text};
 
 use crate::calls::{put_call, put_reply};
 use crate::effects::put_effect;
 use crate::pieces::{Piece, put_pieces};
 use crate::words::{kind_word, level_word};
-use gm_base::{Access, Folio, Level, Op, Page, Span};
+use gm_base::{Access, Folio, Kind, Level, Op, Page, Span};
 use gm_flat::{Backing, Exit, What};
 use gm_io::{Failed, Gathered, Sink};
 
-fn put_access<K: Sink>(sink: &mut K, out: &mut Gathered, access: Access) -> Result<(), Failed>
-    ensures { Adds (outlet (K.held sink.old) out.old (K.faults sink.old)) (outlet (K.held sink.new) out.new (K.faults sink.new)) (access_text access) result }
+fn put_missed<K: Sink>(sink: &mut K, out: &mut Gathered, access: Access) -> Result<(), Failed>
+    ensures { Adds (outlet (K.held sink.old) out.old (K.faults sink.old)) (outlet (K.held sink.new) out.new (K.faults sink.new)) (codes "miss " ++ access_text access) result }
 {
-    let gpa = access.address();
-    let kind = kind_word(access.kind());
-    match access.op() {
-        Op::Read => put_text!(sink, out; Word b"read ", Word kind, Word b" ", Number gpa),
-        Op::Write(value) => {
-            put_text!(sink, out; Word b"write ", Word kind, Word b" ", Number gpa, Word b" ", Number value)
+    put_access!(sink, out, access; b"miss read private ", b"miss read shared ", b"miss write private ", b"miss write shared ")
+}
+
+fn put_touched<K: Sink>(sink: &mut K, out: &mut Gathered, access: Access) -> Result<(), Failed>
+    ensures { Adds (outlet (K.held sink.old) out.old (K.faults sink.old)) (outlet (K.held sink.new) out.new (K.faults sink.new)) (codes "touch " ++ access_text access) result }
+{
+    put_access!(sink, out, access; b"touch read private ", b"touch read shared ", b"touch write private ", b"touch write shared ")
+}
+
+// After a space.
+fn put_backing<K: Sink>(sink: &mut K, out: &mut Gathered, backing: Backing) -> Result<(), Failed>
+    ensures { Adds (outlet (K.held sink.old) out.old (K.faults sink.old)) (outlet (K.held sink.new) out.new (K.faults sink.new)) (codes " " ++ backing_text backing) result }
+{
+    match backing {
+        Backing::User(page) => put_text!(sink, out; Word b" user=", Number page),
+        Backing::Folio(folio) => {
+            put_text!(sink, out; Word b" serial=", Number folio.serial, Word b" frame=", Number folio.frame as u64)
         }
     }
 }
 
-fn put_backing<K: Sink>(sink: &mut K, out: &mut Gathered, backing: Backing) -> Result<(), Failed>
-    ensures { Adds (outlet (K.held sink.old) out.old (K.faults sink.old)) (outlet (K.held sink.new) out.new (K.faults sink.new)) (backing_text backing) result }
+// The end of a touch's text.
+fn put_read<K: Sink>(
+    sink: &mut K,
+    out: &mut Gathered,
+    level: Level,
+    value: u64,
+    fill: u64,
+) -> Result<(), Failed>
+    ensures { Adds (outlet (K.held sink.old) out.old (K.faults sink.old)) (outlet (K.held sink.new) out.new (K.faults sink.new)) (joined (codes " level=" ∷ level_text level ∷ codes " value=" ∷ decimal value ∷ codes " fill=" ∷ decimal fill ∷ [])) result }
 {
-    match backing {
-        Backing::User(page) => put_text!(sink, out; Word b"user=", Number page),
-        Backing::Folio(folio) => {
-            put_text!(sink, out; Word b"serial=", Number folio.serial, Word b" frame=", Number folio.frame as u64)
+    match level {
+        Level::Small => {
+            put_text!(sink, out; Word b" level=4k value=", Number value, Word b" fill=", Number fill)
+        }
+        Level::Block => {
+            put_text!(sink, out; Word b" level=2m value=", Number value, Word b" fill=", Number fill)
         }
     }
 }
@@ -87,13 +108,6 @@ fn put_begin<K: Sink>(sink: &mut K, out: &mut Gathered, spans: &[Span]) -> Resul
     put_spans(sink, out, spans)
 }
 
-fn put_miss<K: Sink>(sink: &mut K, out: &mut Gathered, access: Access) -> Result<(), Failed>
-    ensures { Adds (outlet (K.held sink.old) out.old (K.faults sink.old)) (outlet (K.held sink.new) out.new (K.faults sink.new)) (codes "miss " ++ access_text access) result }
-{
-    put!(out.add(sink, b"miss "));
-    put_access(sink, out, access)
-}
-
 fn put_touch<K: Sink>(
     sink: &mut K,
     out: &mut Gathered,
@@ -105,11 +119,9 @@ fn put_touch<K: Sink>(
 ) -> Result<(), Failed>
     ensures { Adds (outlet (K.held sink.old) out.old (K.faults sink.old)) (outlet (K.held sink.new) out.new (K.faults sink.new)) (what_text (Touch access backing level value fill)) result }
 {
-    put!(out.add(sink, b"touch "));
-    put!(put_access(sink, out, access));
-    put!(out.add(sink, b" "));
+    put!(put_touched(sink, out, access));
     put!(put_backing(sink, out, backing));
-    put_text!(sink, out; Word b" level=", Word level_word(level), Word b" value=", Number value, Word b" fill=", Number fill)
+    put_read(sink, out, level, value, fill)
 }
 
 fn put_install<K: Sink>(
@@ -152,7 +164,7 @@ pub fn put_what<K: Sink>(sink: &mut K, out: &mut Gathered, what: &What) -> Resul
     match what {
         What::Enter => out.add(sink, b"enter"),
         What::Flush => out.add(sink, b"flush"),
-        What::Miss { access } => put_miss(sink, out, *access),
+        What::Miss { access } => put_missed(sink, out, *access),
         What::Sample { at } => put_text!(sink, out; Word b"sample at=", Number *at),
         What::Look {
             at,

@@ -22,7 +22,7 @@ fn put_head<K: Sink>(
 ) -> Result<(), Failed>
     ensures { Adds (outlet (K.held sink.old) out.old (K.faults sink.old)) (outlet (K.held sink.new) out.new (K.faults sink.new)) (joined (decimal turn ∷ codes " " ∷ actor_letter actor ∷ decimal (actor_number actor) ∷ codes " " ∷ [])) result }
 {
-    put_text!(sink, out; Number turn, Word b" ", Word letter_of(actor), Number number_of(actor), Word b" ")
+    put_text!(sink, out; Number turn, Word letter_of(actor), Number number_of(actor), Word b" ")
 }
 
 fn put_entry<K: Sink>(sink: &mut K, out: &mut Gathered, entry: &Entry) -> Result<(), Failed>

@@ -8,6 +8,26 @@ macro_rules! put_text {
     };
 }
 
+// Appends an access after words for a read and a write of either kind.
+macro_rules! put_access {
+    ($sink:expr, $out:expr, $access:expr; $read_private:expr, $read_shared:expr, $write_private:expr, $write_shared:expr) => {
+        match $access.op() {
+            Op::Read => match $access.kind() {
+                Kind::Private => put_text!($sink, $out; Word $read_private, Number $access.address()),
+                Kind::Shared => put_text!($sink, $out; Word $read_shared, Number $access.address()),
+            },
+            Op::Write(value) => match $access.kind() {
+                Kind::Private => {
+                    put_text!($sink, $out; Word $write_private, Number $access.address(), Word b" ", Number value)
+                }
+                Kind::Shared => {
+                    put_text!($sink, $out; Word $write_shared, Number $access.address(), Word b" ", Number value)
+                }
+            },
+        }
+    };
+}
+
 // Goes on where all was appended, and hands a failure on.
 macro_rules! put {
     ($call:expr) => {

@@ -19,6 +19,7 @@ pub enum Piece<'a> {
 }
 
 /// Appends the pieces one after another. Where the sink fails, a front of their text was appended.
+#[inline(always)]
 pub fn put_pieces<K: Sink>(
     sink: &mut K,
     out: &mut Gathered,
@@ -32,6 +33,7 @@ pub fn put_pieces<K: Sink>(
     Ok(())
 }
 
+#[inline(always)]
 fn put_piece<K: Sink>(sink: &mut K, out: &mut Gathered, piece: Piece<'_>) -> Result<(), Failed>
     ensures { Adds (outlet (K.held sink.old) out.old (K.faults sink.old)) (outlet (K.held sink.new) out.new (K.faults sink.new)) (piece_text piece.entry) result }
 {
@@ -43,6 +45,7 @@ fn put_piece<K: Sink>(sink: &mut K, out: &mut Gathered, piece: Piece<'_>) -> Res
     }
 }
 
+#[inline(never)]
 fn put_number<K: Sink>(sink: &mut K, out: &mut Gathered, n: u64) -> Result<(), Failed>
     ensures { Adds (outlet (K.held sink.old) out.old (K.faults sink.old)) (outlet (K.held sink.new) out.new (K.faults sink.new)) (decimal n) result }
 {

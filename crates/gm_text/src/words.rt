@@ -1,16 +1,17 @@
 //! The words for values.
 
-ghost use Rattle.std.specs.Prelude.{◌≡◌};
+ghost use Rattle.std.specs.Prelude.{◌≡◌, ◌++◌, codes};
 ghost use Rattle.gm_text.specs.Text.{actor_letter, actor_number, kind_text, level_text, bit_text, huge_text};
 
 use gm_base::{Actor, Kind, Level};
 
+// After a space.
 pub fn letter_of(actor: Actor) -> &'static [u8]
-    ensures { result.now ≡ actor_letter actor }
+    ensures { result.now ≡ codes " " ++ actor_letter actor }
 {
     match actor {
-        Actor::Vcpu(_) => b"v",
-        Actor::Caller(_) => b"c",
+        Actor::Vcpu(_) => b" v",
+        Actor::Caller(_) => b" c",
     }
 }
 

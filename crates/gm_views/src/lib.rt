@@ -4,6 +4,7 @@
 mod attributes;
 mod doors;
 mod laws;
+mod looking;
 mod publisher;
 mod rule;
 mod shown;
@@ -14,6 +15,7 @@ mod spy;
 
 pub use doors::{Door, Doors, Glimpse};
 pub use laws::views_follow_the_flat_state;
+pub use looking::look_after;
 pub use publisher::Publisher;
 pub use rule::{Known, Look, Note, Put, Rule, ViewReader, ViewWriter};
 pub use shown::{Change, Content, Shown};

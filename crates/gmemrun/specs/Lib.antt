@@ -5,4 +5,5 @@ pub mod Reading
 pub mod Refusal
 pub mod Running
 pub mod Statuses
+pub mod Threading
 pub mod Words

@@ -17,6 +17,10 @@ IsSteps words = IsWord (codes "steps") words
 abbrev pub IsMigrate : List (String Global) → Type 0
 IsMigrate words = IsWord (codes "migrate") words
 
+-- the one word `threads`
+abbrev pub IsThreads : List (String Global) → Type 0
+IsThreads words = IsWord (codes "threads") words
+
 -- the two words `bulk` and the number, which is written as scripts write theirs, below 2^64
 abbrev pub IsBulk : List (String Global) → ℕ → Type 0
 IsBulk [] number = ⊥

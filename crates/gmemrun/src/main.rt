@@ -1,4 +1,5 @@
 //! `gmemrun steps` reads a script from standard input and writes the history of its turns to standard output;
+//! `gmemrun threads` runs each actor of the script in a thread of its own, and writes the history of that;
 //! `gmemrun migrate` reads a history of version 1 and writes it in version 2; `gmemrun bulk N` plays the script that the
 //! number N stands for, and writes the line of what its history comes to.
 #![tactic(auto)]
@@ -9,6 +10,7 @@ mod read;
 mod refusal;
 mod status;
 mod steps;
+mod threads;
 mod top;
 
 pub use bulk::{BULK_TURNS, run_bulk};
@@ -19,6 +21,7 @@ use std::alloc::{AllocError, Global};
 use std::process::ExitCode;
 use std::{env, io};
 pub use steps::run_steps;
+pub use threads::run_threads;
 pub use top::run;
 
 // The number with which the program ends where the runtime refuses its words. No status has it.

@@ -7,3 +7,4 @@ mod migrations;
 mod numbers;
 mod rows;
 mod samples;
+mod threads;

@@ -9,13 +9,15 @@ ghost use Rattle.gmemrun.specs.Coming.{CameTo, Put, PutAll};
 ghost use Rattle.gmemrun.specs.Migrating.{MigrateDue, MigrateEndsBy};
 ghost use Rattle.gmemrun.specs.Reading.{TookTooMuch};
 ghost use Rattle.gmemrun.specs.Running.{EndsBy, StepsDue};
-ghost use Rattle.gmemrun.specs.Words.{IsBulk, IsMigrate, IsSteps};
+ghost use Rattle.gmemrun.specs.Threading.{ThreadsDue};
+ghost use Rattle.gmemrun.specs.Words.{IsBulk, IsMigrate, IsSteps, IsThreads};
 ghost use Rattle.gmemrun.specs.declared.bulk.TheConstants.{BULK_TURNS};
 
 use crate::bulk::run_bulk;
 use crate::migrating::run_migrate;
 use crate::status::Status;
 use crate::steps::run_steps;
+use crate::threads::run_threads;
 use gm_base::MOST_SCRIPT_BYTES;
 use gm_io::{Gate, Sink, Source};
 use gm_script::read_number;
@@ -41,11 +43,20 @@ fn says_migrate(words: &[String]) -> bool
     }
 }
 
+fn says_threads(words: &[String]) -> bool
+    ensures { IsTrue result ↔ IsThreads words.now }
+{
+    match words {
+        [word] => word.as_str() == "threads",
+        _ => false,
+    }
+}
+
 // The number of the two words `bulk N`.
 fn bulk_number(words: &[String]) -> Option<u64>
     ensures some { IfSome result (λ number. IsBulk words.now number) }
     ensures none { result ≡ None → (number : ℕ) → IsBulk words.now number → ⊥ }
-    ensures alone { IfSome result (λ _. (IsSteps words.now → ⊥) × (IsMigrate words.now → ⊥)) }
+    ensures alone { IfSome result (λ _. (IsSteps words.now → ⊥) × (IsMigrate words.now → ⊥) × (IsThreads words.now → ⊥)) }
 {
     match words {
         [word, digits] => {
@@ -58,17 +69,18 @@ fn bulk_number(words: &[String]) -> Option<u64>
     }
 }
 
-/// Does what the words say: for `steps` what `run_steps` does, for `migrate` what `run_migrate` does, for `bulk` and a
-/// number what `run_bulk` does, and for all other words nothing. With `bulk` the source stays as it was.
+/// Does what the words say: for `steps` what `run_steps` does, for `threads` what `run_threads` does, for `migrate` what
+/// `run_migrate` does, for `bulk` and a number what `run_bulk` does, and for all other words nothing. With `bulk` the source
+/// stays as it was.
 pub fn run<R: Threads + Wait + Sync, S: Source, K: Sink, G: Gate + Sync>(
-    _rt: &R,
+    rt: &R,
     alloc: Global,
     words: &[String],
     source: &mut S,
     sink: &mut K,
-    _gate: &G,
+    gate: &G,
 ) -> Status
-    ensures usage { result ≡ Status.Usage ↔ ((IsSteps words.now → ⊥) × (IsMigrate words.now → ⊥) × ((number : ℕ) → IsBulk words.now number → ⊥)) }
+    ensures usage { result ≡ Status.Usage ↔ ((IsSteps words.now → ⊥) × (IsMigrate words.now → ⊥) × (IsThreads words.now → ⊥) × ((number : ℕ) → IsBulk words.now number → ⊥)) }
     ensures unread { result ≡ Status.Usage → S.left source.new ≡ S.left source.old }
     ensures unwritten { result ≡ Status.Usage → K.held sink.new ≡ K.held sink.old }
     ensures read_fault { result ≡ Status.ReadFault → Rose (S.faults source.old) (S.faults source.new) }
@@ -79,6 +91,12 @@ pub fn run<R: Threads + Wait + Sync, S: Source, K: Sink, G: Gate + Sync>(
     ensures long_only { IsSteps words.now → IfSome (S.left source.old) (λ _. TookTooMuch MOST_SCRIPT_BYTES (S.left source.old) (S.left source.new) → (result ≡ Status.TooLong) ⊎ (result ≡ Status.NoMemory)) }
     ensures bad_only { IsSteps words.now → IfSome (S.left source.old) (λ bytes. IfSome (K.held sink.new) (λ _. PutAll StepsDue bytes Status.BadScript (K.held sink.old) (K.held sink.new) → result ≡ Status.BadScript)) }
     ensures complete { IsSteps words.now → (Rose (S.faults source.old) (S.faults source.new) → ⊥) → (Rose (K.faults sink.old) (K.faults sink.new) → ⊥) → IfSome (S.left source.old) (λ bytes. EndsBy bytes result) }
+
+    // For `threads`.
+    ensures threads_came_to { IsThreads words.now → CameTo MOST_SCRIPT_BYTES ThreadsDue result (S.left source.old) (S.left source.new) (K.held sink.old) (K.held sink.new) }
+    ensures threads_long_only { IsThreads words.now → IfSome (S.left source.old) (λ _. TookTooMuch MOST_SCRIPT_BYTES (S.left source.old) (S.left source.new) → (result ≡ Status.TooLong) ⊎ (result ≡ Status.NoMemory)) }
+    ensures threads_bad_only { IsThreads words.now → IfSome (S.left source.old) (λ bytes. IfSome (K.held sink.new) (λ _. PutAll ThreadsDue bytes Status.BadScript (K.held sink.old) (K.held sink.new) → result ≡ Status.BadScript)) }
+    ensures threads_complete { IsThreads words.now → (Rose (S.faults source.old) (S.faults source.new) → ⊥) → (Rose (K.faults sink.old) (K.faults sink.new) → ⊥) → IfSome (S.left source.old) (λ bytes. EndsBy bytes result) }
 
     // For `migrate`.
     ensures migrate_came_to { IsMigrate words.now → CameTo MOST_HISTORY_BYTES MigrateDue result (S.left source.old) (S.left source.new) (K.held sink.old) (K.held sink.new) }
@@ -94,18 +112,20 @@ pub fn run<R: Threads + Wait + Sync, S: Source, K: Sink, G: Gate + Sync>(
 {
     match bulk_number(words) {
         Some(number) => run_bulk(alloc, number, sink),
-        None => run_one_word(alloc, words, source, sink),
+        None => run_one_word(rt, alloc, words, source, sink, gate),
     }
 }
 
 // What the words do that are one word alone.
-fn run_one_word<S: Source, K: Sink>(
+fn run_one_word<R: Threads + Wait + Sync, S: Source, K: Sink, G: Gate + Sync>(
+    rt: &R,
     alloc: Global,
     words: &[String],
     source: &mut S,
     sink: &mut K,
+    gate: &G,
 ) -> Status
-    ensures usage { result ≡ Status.Usage ↔ ((IsSteps words.now → ⊥) × (IsMigrate words.now → ⊥)) }
+    ensures usage { result ≡ Status.Usage ↔ ((IsSteps words.now → ⊥) × (IsMigrate words.now → ⊥) × (IsThreads words.now → ⊥)) }
     ensures unread { result ≡ Status.Usage → S.left source.new ≡ S.left source.old }
     ensures unwritten { result ≡ Status.Usage → K.held sink.new ≡ K.held sink.old }
     ensures read_fault { result ≡ Status.ReadFault → Rose (S.faults source.old) (S.faults source.new) }
@@ -117,6 +137,12 @@ fn run_one_word<S: Source, K: Sink>(
     ensures bad_only { IsSteps words.now → IfSome (S.left source.old) (λ bytes. IfSome (K.held sink.new) (λ _. PutAll StepsDue bytes Status.BadScript (K.held sink.old) (K.held sink.new) → result ≡ Status.BadScript)) }
     ensures complete { IsSteps words.now → (Rose (S.faults source.old) (S.faults source.new) → ⊥) → (Rose (K.faults sink.old) (K.faults sink.new) → ⊥) → IfSome (S.left source.old) (λ bytes. EndsBy bytes result) }
 
+    // For `threads`.
+    ensures threads_came_to { IsThreads words.now → CameTo MOST_SCRIPT_BYTES ThreadsDue result (S.left source.old) (S.left source.new) (K.held sink.old) (K.held sink.new) }
+    ensures threads_long_only { IsThreads words.now → IfSome (S.left source.old) (λ _. TookTooMuch MOST_SCRIPT_BYTES (S.left source.old) (S.left source.new) → (result ≡ Status.TooLong) ⊎ (result ≡ Status.NoMemory)) }
+    ensures threads_bad_only { IsThreads words.now → IfSome (S.left source.old) (λ bytes. IfSome (K.held sink.new) (λ _. PutAll ThreadsDue bytes Status.BadScript (K.held sink.old) (K.held sink.new) → result ≡ Status.BadScript)) }
+    ensures threads_complete { IsThreads words.now → (Rose (S.faults source.old) (S.faults source.new) → ⊥) → (Rose (K.faults sink.old) (K.faults sink.new) → ⊥) → IfSome (S.left source.old) (λ bytes. EndsBy bytes result) }
+
     // For `migrate`.
     ensures migrate_came_to { IsMigrate words.now → CameTo MOST_HISTORY_BYTES MigrateDue result (S.left source.old) (S.left source.new) (K.held sink.old) (K.held sink.new) }
     ensures migrate_long_only { IsMigrate words.now → IfSome (S.left source.old) (λ _. TookTooMuch MOST_HISTORY_BYTES (S.left source.old) (S.left source.new) → (result ≡ Status.TooLong) ⊎ (result ≡ Status.NoMemory)) }
@@ -125,6 +151,9 @@ fn run_one_word<S: Source, K: Sink>(
 {
     if says_steps(words) {
         return run_steps(alloc, source, sink);
+    }
+    if says_threads(words) {
+        return run_threads(rt, alloc, source, sink, gate);
     }
     if says_migrate(words) {
         return run_migrate(alloc, source, sink);

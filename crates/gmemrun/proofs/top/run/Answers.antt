@@ -10,7 +10,7 @@ use Rattle.gmemrun.proofs.top.run.Goals as goal
 -- where the words have a number
 
 pub returns-in-Some-clause-usage : goal.returns-in-Some-clause-usage
-returns-in-Some-clause-usage g c = (λ e. absurd (never_usage c.run_bulk.result c.run_bulk.ensures.only e), λ n. absurd (n.2 c.in-Some.number c.in-Some.ensures.some))
+returns-in-Some-clause-usage g c = (λ e. absurd (never_usage c.run_bulk.result c.run_bulk.ensures.only e), λ n. absurd (n.3 c.in-Some.number c.in-Some.ensures.some))
 
 pub returns-in-Some-clause-unwritten : goal.returns-in-Some-clause-unwritten
 returns-in-Some-clause-unwritten g c = λ e. absurd (never_usage c.run_bulk.result c.run_bulk.ensures.only e)
@@ -29,6 +29,18 @@ returns-in-Some-clause-bad_only g c = λ is. absurd (c.in-Some.ensures.alone.0 i
 
 pub returns-in-Some-clause-complete : goal.returns-in-Some-clause-complete
 returns-in-Some-clause-complete g c = λ is. absurd (c.in-Some.ensures.alone.0 is)
+
+pub returns-in-Some-clause-threads_came_to : goal.returns-in-Some-clause-threads_came_to
+returns-in-Some-clause-threads_came_to g c = λ is. absurd (c.in-Some.ensures.alone.2 is)
+
+pub returns-in-Some-clause-threads_long_only : goal.returns-in-Some-clause-threads_long_only
+returns-in-Some-clause-threads_long_only g c = λ is. absurd (c.in-Some.ensures.alone.2 is)
+
+pub returns-in-Some-clause-threads_bad_only : goal.returns-in-Some-clause-threads_bad_only
+returns-in-Some-clause-threads_bad_only g c = λ is. absurd (c.in-Some.ensures.alone.2 is)
+
+pub returns-in-Some-clause-threads_complete : goal.returns-in-Some-clause-threads_complete
+returns-in-Some-clause-threads_complete g c = λ is. absurd (c.in-Some.ensures.alone.2 is)
 
 pub returns-in-Some-clause-migrate_came_to : goal.returns-in-Some-clause-migrate_came_to
 returns-in-Some-clause-migrate_came_to g c = λ is. absurd (c.in-Some.ensures.alone.1 is)
@@ -52,7 +64,7 @@ returns-in-Some-clause-bulk_put g c = λ n is.
 pub returns-in-None-clause-usage : goal.returns-in-None-clause-usage
 returns-in-None-clause-usage g c =
     let u = c.run_one_word.ensures.usage in
-    (λ e. ((u.0 e).0, (u.0 e).1, c.in-None.ensures.none refl), λ n. u.1 (n.0, n.1))
+    (λ e. ((u.0 e).0, (u.0 e).1, (u.0 e).2, c.in-None.ensures.none refl), λ n. u.1 (n.0, n.1, n.2))
 
 pub returns-in-None-clause-bulk_unread : goal.returns-in-None-clause-bulk_unread
 returns-in-None-clause-bulk_unread g c = λ n is. absurd (c.in-None.ensures.none refl n is)

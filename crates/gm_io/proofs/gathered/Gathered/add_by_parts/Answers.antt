@@ -2,7 +2,7 @@ use Rattle.std.proofs.Common.{arith, take, drop}
 use Rattle.std.proofs.lemmas.List.{length-drop, take_rest}
 use Rattle.gm_io.specs.Held.{Gains, total}
 use Rattle.gm_io.proofs.Held.{Gains-step, Gains_kept, GainsFront_at, Grows-trans}
-use Rattle.gm_io.proofs.gathered.Gathered.add.Goals as goal
+use Rattle.gm_io.proofs.gathered.Gathered.add_by_parts.Goals as goal
 
 pub loop-at-preserved : goal.loop-at-preserved
 loop-at-preserved g c =

@@ -1,6 +1,6 @@
 use Rattle.std.proofs.Common.{◌≤◌, ◌-◌, length, take}
 use Rattle.gm_io.specs.Held.{Gains, Grows, total}
-use Rattle.gm_io.proofs.gathered.Gathered.add.Given as goal
+use Rattle.gm_io.proofs.gathered.Gathered.add_by_parts.Given as goal
 
 abbrev pub invariant-loop-at : goal.invariant-loop-at
 invariant-loop-at g l = record {

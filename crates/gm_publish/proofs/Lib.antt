@@ -1,0 +1,9 @@
+pub mod Calming
+pub mod Counts
+pub mod Faults
+pub mod Finding
+pub mod Judging
+pub mod Looking
+pub mod Lookups
+pub mod Showing
+pub mod Turning

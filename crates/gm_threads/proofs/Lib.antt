@@ -1,0 +1,3 @@
+mod Deciding
+mod Gone
+mod Handing
