@@ -137,7 +137,7 @@ impl File {
         // The same, index by index.
         ensures cached { (k : ℕ) → lookup k self.new.cached ≡ (if nat_eq k index then Some folio else lookup k self.old.cached) }
     {
-        self.cache.insert(index, folio);
+        self.cache.insert_new(index, folio);
         self.page_spare -= 1;
     }
 

@@ -1,9 +1,10 @@
 //! The map.
 
-ghost use Rattle.std.specs.Prelude.{◌≡◌, ℕ, ◌+◌, ◌<◌, ◌≤◌, ◌++◌, [], length, IsTrue, IsSome, ◌↔◌, OnOk, OnErr, vec_len, vec_capacity};
+ghost use Rattle.std.specs.Prelude.{◌≡◌, ℕ, ◌+◌, ◌<◌, ◌≤◌, ◌++◌, [], length, IsTrue, IsSome, None, ◌↔◌, OnOk, OnErr, vec_len, vec_capacity};
 ghost use Rattle.gm_base.specs.declared.numbers.TheConstants.{PAGE_LIMIT};
 ghost use Rattle.gm_radix.specs.Entries.{lookup, put, within, without, count_within, Rises, IsFirstGap};
 
+use crate::inserting::insert;
 use crate::node::Node;
 use crate::tree;
 use gm_base::{NoMemory, PAGE_LIMIT};
@@ -77,10 +78,33 @@ impl<V: Copy> Radix<V> {
         ensures entries { self.new.entries ≡ put index value self.old.entries }
         ensures spare { self.old.spare ≤ self.new.spare + 1 }
     {
+        match self.get(index) {
+            Some(_) => self.insert_counted(index, value, 0),
+            None => self.insert_counted(index, value, 1),
+        }
+    }
+
+    /// Puts a value at an index that has none, which needn't be looked for then. It takes no memory but what is kept.
+    pub fn insert_new(&mut self, index: u64, value: V)
+        requires limit { index < PAGE_LIMIT }
+        requires free { lookup index self.old.entries ≡ None }
+        requires room { 0 < self.old.spare }
+        ensures entries { self.new.entries ≡ put index value self.old.entries }
+        ensures spare { self.old.spare ≤ self.new.spare + 1 }
+    {
+        self.insert_counted(index, value, 1);
+    }
+
+    // Puts the value at the index, by which so many entries are added.
+    fn insert_counted(&mut self, index: u64, value: V, added: u64)
+        requires limit { index < PAGE_LIMIT }
+        requires room { 0 < self.old.spare }
+        requires added { length (put index value self.old.entries) ≡ length self.old.entries + added }
+        ensures entries { self.new.entries ≡ put index value self.old.entries }
+        ensures spare { self.old.spare ≤ self.new.spare + 1 }
+    {
         match self.root {
-            Some(key) => {
-                tree::insert(&mut self.nodes, key, 0, PAGE_LIMIT, index, value);
-            }
+            Some(key) => insert(&mut self.nodes, key, index, value, added),
             None => self.root = Some(self.nodes.insert_reserved(Node::Leaf(index, value))),
         }
         self.spare -= 1;

@@ -16,7 +16,11 @@ fn the_ends_of_the_ranges(rt: HostRuntime) -> Result<(), Fail> {
     let mut map = Radix::new(rt.alloc());
     for index in [last, 0, 513, 512, 1] {
         map.reserve(1).ok().ok_or("memory")?;
-        map.insert(index, index + 7);
+        map.insert_new(index, index + 7);
+    }
+    map.reserve(2).ok().ok_or("memory")?;
+    for value in [8, 7] {
+        map.insert(0, value);
     }
     assert_eq!(rt; map.get(last), Some(last + 7));
     assert_eq!(rt; map.get(2), None);

@@ -122,57 +122,6 @@ pub(crate) fn collect<V: Copy>(
     }
 }
 
-/// Puts the value at the index, in the place of the one that was there, and answers how many entries that adds. The tree
-/// has its indexes from `from` on and below `to`.
-pub(crate) fn insert<V: Copy>(
-    nodes: &mut Slab<Node<V>>,
-    key: usize,
-    from: u64,
-    to: u64,
-    index: u64,
-    value: V,
-) -> u64
-    requires tree { IsPart nodes.old.slots key from to }
-    requires limit { to ≤ PAGE_LIMIT }
-    requires low { from ≤ index }
-    requires high { index < to }
-    requires room { HasRoomFor nodes.old 2 }
-    ensures entries { Holds nodes.new.slots key from to (put index value (under nodes.old.slots key)) }
-    ensures keeps { Keeps nodes.old.slots nodes.new.slots from to }
-    ensures added { result + length (under nodes.old.slots key) ≡ length (put index value (under nodes.old.slots key)) }
-    ensures nodes { slab_len nodes.new + nodes_of (under nodes.old.slots key) ≡ slab_len nodes.old + nodes_of (put index value (under nodes.old.slots key)) }
-    ensures capacity { nodes.new.capacity ≡ nodes.old.capacity }
-{
-    match nodes[key] {
-        Node::Leaf(at, _) => {
-            if at == index {
-                set(nodes, key, Node::Leaf(index, value));
-                0
-            } else {
-                let block = block_beside(at, at + 1, index, from, to);
-                part(nodes, key, block, 1, index, value);
-                1
-            }
-        }
-        Node::Fork(parts) => {
-            let block = parts.block;
-            if index < block.first || block.end <= index {
-                let wider = block_beside(block.first, block.end, index, from, to);
-                part(nodes, key, wider, parts.count, index, value);
-                1
-            } else if index < block.pivot {
-                let added = insert(nodes, parts.left, block.first, block.pivot, index, value);
-                count_more(nodes, key, parts, added);
-                added
-            } else {
-                let added = insert(nodes, parts.right, block.pivot, block.end, index, value);
-                count_more(nodes, key, parts, added);
-                added
-            }
-        }
-    }
-}
-
 /// What is left of a tree: the key where it stands, unless it is empty, and how many entries are gone.
 #[derive(Clone, Copy)]
 pub(crate) struct Rest {
@@ -294,26 +243,8 @@ fn link<V: Copy>(
     }
 }
 
-// Counts so many more entries of a fork's parts.
-fn count_more<V: Copy>(nodes: &mut Slab<Node<V>>, key: usize, parts: Parts, added: u64)
-    requires fork { node_at nodes.old.slots key ≡ Some (Node.Fork parts) }
-    requires limit { parts.count + added ≤ PAGE_LIMIT }
-    ensures updates { Updates nodes.old nodes.new key (Some (Node.Fork (record parts { count = parts.count + added }))) }
-    ensures len { slab_len nodes.new ≡ slab_len nodes.old }
-    ensures capacity { nodes.new.capacity ≡ nodes.old.capacity }
-{
-    link(
-        nodes,
-        key,
-        parts,
-        parts.left,
-        parts.right,
-        parts.count + added,
-    );
-}
-
 // The block over a node's indexes and one beside them. They are all from `from` on and below `to`.
-fn block_beside(first: u64, end: u64, index: u64, from: u64, to: u64) -> Block
+pub(crate) fn block_beside(first: u64, end: u64, index: u64, from: u64, to: u64) -> Block
     requires order { first < end }
     requires apart { (index < first) ⊎ (end ≤ index) }
     requires low { from ≤ first }
@@ -339,7 +270,7 @@ fn block_beside(first: u64, end: u64, index: u64, from: u64, to: u64) -> Block
 }
 
 // Puts an entry beside a tree of so many, in the other half of a block. The block stands under the tree's key.
-fn part<V: Copy>(
+pub(crate) fn part<V: Copy>(
     nodes: &mut Slab<Node<V>>,
     key: usize,
     block: Block,
@@ -377,7 +308,7 @@ fn part<V: Copy>(
 }
 
 // Writes a node over the one under a key.
-fn set<V: Drop>(nodes: &mut Slab<Node<V>>, key: usize, node: Node<V>)
+pub(crate) fn set<V: Drop>(nodes: &mut Slab<Node<V>>, key: usize, node: Node<V>)
     requires { ContainsKey nodes.old key }
     ensures updates { Updates nodes.old nodes.new key (Some node) }
     ensures len { slab_len nodes.new ≡ slab_len nodes.old }

@@ -1,0 +1,107 @@
+//! Putting an entry into a tree.
+
+ghost use Rattle.std.specs.Prelude.{◌≡◌, ℕ, ◌+◌, ◌*◌, ◌<◌, ◌≤◌, ◌⊎◌, Some, IfSome, IfNone, length};
+ghost use Rattle.slab.specs.Slab.{slab_len, HasRoomFor};
+ghost use Rattle.gm_base.specs.declared.numbers.TheConstants.{PAGE_LIMIT};
+ghost use Rattle.gm_radix.specs.Entries.{put};
+ghost use Rattle.gm_radix.specs.declared.node.Parts.{Parts};
+ghost use Rattle.gm_radix.specs.Nodes.{node_at, under, nodes_of, Holds, IsPart, IsTree, Keeps};
+
+use crate::block::Block;
+use crate::node::{Node, Parts};
+use crate::tree::{block_beside, part, set};
+use gm_base::PAGE_LIMIT;
+use slab::Slab;
+
+/// Puts the value at the index, in the place of the one that was there. So many entries are added by that, one or none,
+/// and each fork counts them on the way down: no second way leads back up.
+pub(crate) fn insert<V: Copy>(
+    nodes: &mut Slab<Node<V>>,
+    root: usize,
+    index: u64,
+    value: V,
+    added: u64,
+)
+    requires tree { IsTree nodes.old.slots root }
+    requires limit { index < PAGE_LIMIT }
+    requires added { length (put index value (under nodes.old.slots root)) ≡ length (under nodes.old.slots root) + added }
+    requires room { HasRoomFor nodes.old 2 }
+    ensures entries { Holds nodes.new.slots root 0 PAGE_LIMIT (put index value (under nodes.old.slots root)) }
+    ensures nodes { slab_len nodes.new ≡ slab_len nodes.old + 2 * added }
+    ensures capacity { nodes.new.capacity ≡ nodes.old.capacity }
+{
+    let mut key = root;
+    let mut from = 0;
+    let mut to = PAGE_LIMIT;
+    while let Some(parts) = fork_over(nodes, key, index) {
+        let block = parts.block;
+        let count = parts.count + added;
+        set(nodes, key, Node::Fork(Parts { count, ..parts }));
+        if index < block.pivot {
+            from = block.first;
+            to = block.pivot;
+            key = parts.left;
+        } else {
+            from = block.pivot;
+            to = block.end;
+            key = parts.right;
+        }
+    }
+    insert_at(nodes, key, from, to, index, value);
+}
+
+// The fork under the key, where its block has the index.
+fn fork_over<V: Copy>(nodes: &Slab<Node<V>>, key: usize, index: u64) -> Option<Parts>
+    requires { IsTree nodes.now.slots key }
+    ensures some { IfSome result (λ p. (node_at nodes.now.slots key ≡ Some (Node.Fork p)) × (p.block.first ≤ index) × (index < p.block.end)) }
+    ensures none { IfNone result ((p : Parts) → node_at nodes.now.slots key ≡ Some (Node.Fork p) → (index < p.block.first) ⊎ (p.block.end ≤ index)) }
+{
+    match nodes[key] {
+        Node::Leaf(_, _) => None,
+        Node::Fork(parts) => {
+            let block = parts.block;
+            if block.first <= index && index < block.end {
+                Some(parts)
+            } else {
+                None
+            }
+        }
+    }
+}
+
+// Puts the value at the index where the way down ends: into a leaf, or beside the tree under the key.
+fn insert_at<V: Copy>(
+    nodes: &mut Slab<Node<V>>,
+    key: usize,
+    from: u64,
+    to: u64,
+    index: u64,
+    value: V,
+)
+    requires tree { IsPart nodes.old.slots key from to }
+    requires limit { to ≤ PAGE_LIMIT }
+    requires low { from ≤ index }
+    requires high { index < to }
+    requires apart { (p : Parts) → node_at nodes.old.slots key ≡ Some (Node.Fork p) → (index < p.block.first) ⊎ (p.block.end ≤ index) }
+    requires room { HasRoomFor nodes.old 2 }
+    ensures entries { Holds nodes.new.slots key from to (put index value (under nodes.old.slots key)) }
+    ensures keeps { Keeps nodes.old.slots nodes.new.slots from to }
+    ensures nodes { slab_len nodes.new + nodes_of (under nodes.old.slots key) ≡ slab_len nodes.old + nodes_of (put index value (under nodes.old.slots key)) }
+    ensures capacity { nodes.new.capacity ≡ nodes.old.capacity }
+{
+    match nodes[key] {
+        Node::Leaf(at, _) => {
+            if at == index {
+                set(nodes, key, Node::Leaf(index, value));
+            } else {
+                let block = block_beside(at, at + 1, index, from, to);
+                part(nodes, key, block, 1, index, value);
+            }
+        }
+        Node::Fork(parts) => {
+            let Block { first, end, .. } = parts.block;
+            let block = block_beside(first, end, index, from, to);
+            part(nodes, key, block, parts.count, index, value);
+        }
+    }
+}
