@@ -1,7 +1,7 @@
 //! Putting an entry into a tree.
 
 ghost use Rattle.std.specs.Prelude.{◌≡◌, ℕ, ◌+◌, ◌*◌, ◌<◌, ◌≤◌, ◌⊎◌, Some, IfSome, IfNone, length};
-ghost use Rattle.slab.specs.Slab.{slab_len, HasRoomFor};
+ghost use Rattle.slab.specs.Slab.{slab_len, HasRoomFor, Updates};
 ghost use Rattle.gm_base.specs.declared.numbers.TheConstants.{PAGE_LIMIT};
 ghost use Rattle.gm_radix.specs.Entries.{put};
 ghost use Rattle.gm_radix.specs.declared.node.Parts.{Parts};
@@ -35,8 +35,7 @@ pub(crate) fn insert<V: Copy>(
     let mut to = PAGE_LIMIT;
     while let Some(parts) = fork_over(nodes, key, index) {
         let block = parts.block;
-        let count = parts.count + added;
-        set(nodes, key, Node::Fork(Parts { count, ..parts }));
+        count_more(nodes, key, parts, added);
         if index < block.pivot {
             from = block.first;
             to = block.pivot;
@@ -66,6 +65,19 @@ fn fork_over<V: Copy>(nodes: &Slab<Node<V>>, key: usize, index: u64) -> Option<P
                 None
             }
         }
+    }
+}
+
+// Counts so many more entries of the fork under the key.
+fn count_more<V: Copy>(nodes: &mut Slab<Node<V>>, key: usize, parts: Parts, added: u64)
+    requires fork { node_at nodes.old.slots key ≡ Some (Node.Fork parts) }
+    requires limit { parts.count + added ≤ PAGE_LIMIT + 1 }
+    ensures updates { Updates nodes.old nodes.new key (Some (Node.Fork (record parts { count = parts.count + added }))) }
+    ensures len { slab_len nodes.new ≡ slab_len nodes.old }
+    ensures capacity { nodes.new.capacity ≡ nodes.old.capacity }
+{
+    if let Node::Fork(there) = &mut nodes[key] {
+        there.count = parts.count + added;
     }
 }
 
