@@ -166,3 +166,12 @@ module _ {V : Type 0} where
       cases true b p = omega arith
       cases false true p = omega arith
       cases false false p = omega arith
+
+  -- no index that a removal is for has a value after it
+  pub lookup-without : (index lo hi : ℕ) (es : List (ℕ × V)) → lo ≤ index → index < hi → lookup index (without lo hi es) ≡ None
+  lookup-without index lo hi [] p q = refl
+  lookup-without index lo hi (e ∷ es) p q = cases (is_within lo hi e) refl (lookup-without index lo hi es p q)
+    where
+      cases : (b : Bool) → is_within lo hi e ≡ b → lookup index (without lo hi es) ≡ None → lookup index (if b then without lo hi es else e ∷ without lo hi es) ≡ None
+      cases true t r = r
+      cases false t r = lookup_later index e (without lo hi es) (ne_eqb e.0 index (λ s. grind (arith, nat_tests))) ∙ r

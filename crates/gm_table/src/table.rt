@@ -72,7 +72,7 @@ impl Table {
         let end = leaf.first + leaf.level.pages();
         let from = first_met(&self.leaves, leaf.first);
         self.leaves.discard(from, end);
-        self.leaves.insert(leaf.first, leaf);
+        self.leaves.insert_new(leaf.first, leaf);
     }
 
     /// Takes the leaves away that meet the span, and answers how many they were.
@@ -106,7 +106,8 @@ fn leaf_at(leaves: &Radix<Leaf>, first: u64, page: u64) -> Option<Leaf>
 // at the page.
 fn first_met(leaves: &Radix<Leaf>, page: u64) -> u64
     requires { IsKept 0 leaves.now.entries }
-    ensures { (hi : ℕ) → leaves_of (without result hi leaves.now.entries) ≡ apart_from (record { lo = page; hi = hi }) (leaves_of leaves.now.entries) }
+    ensures low { result ≤ page }
+    ensures leaves { (hi : ℕ) → leaves_of (without result hi leaves.now.entries) ≡ apart_from (record { lo = page; hi = hi }) (leaves_of leaves.now.entries) }
 {
     let first = block_start(page);
     match leaf_at(leaves, first, page) {

@@ -27,7 +27,7 @@ returns-clause-over c page =
     let span : Extent = record { lo = c.lo.result; hi = c.hi.result } in
     let is : span ≡ c.args.span = rw (c.lo.ensures.lo, c.hi.ensures.hi) refl in
     rw c.discard.ensures.entries
-    (ap (λ (ls : List Leaf). leaf_over ls page) (c.first_met-from.ensures c.hi.result)
+    (ap (λ (ls : List Leaf). leaf_over ls page) (c.first_met-from.ensures.leaves c.hi.result)
     ∙ (leaf_over-apart_from 0 span (leaves_of c.self.inside.leaves.entries) page lie
     ∙ (ap (λ (s : Extent). unless_met s (leaf_over (leaves_of c.self.inside.leaves.entries) page)) is
     ∙ ap (λ (m : Mapped). unless_met c.args.span (leaf_over m.leaves page)) c.self.view_is)))
