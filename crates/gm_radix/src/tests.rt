@@ -16,11 +16,7 @@ fn the_ends_of_the_ranges(rt: HostRuntime) -> Result<(), Fail> {
     let mut map = Radix::new(rt.alloc());
     for index in [last, 0, 513, 512, 1] {
         map.reserve(1).ok().ok_or("memory")?;
-        map.insert_new(index, index + 7);
-    }
-    map.reserve(2).ok().ok_or("memory")?;
-    for value in [8, 7] {
-        map.insert(0, value);
+        map.insert(index, index + 7);
     }
     assert_eq!(rt; map.get(last), Some(last + 7));
     assert_eq!(rt; map.get(2), None);
@@ -41,7 +37,9 @@ fn the_ends_of_the_ranges(rt: HostRuntime) -> Result<(), Fail> {
 fn drains_into_a_list(rt: HostRuntime) -> Result<(), Fail> {
     let mut map = Radix::new(rt.alloc());
     map.reserve(1).ok().ok_or("memory")?;
-    map.insert(3, 7);
+    if map.get(3).is_none() {
+        map.insert_new(3, 7);
+    }
     let mut taken = Vec::with_capacity(rt.alloc(), 1)?;
     map.drain(3, 4, &mut taken);
     assert_eq!(rt; taken.as_slice(), [(3, 7)].as_slice());
