@@ -1,10 +1,11 @@
 -- The slots of a file that are bound in a range of it, one after another.
-use Rattle.std.proofs.Common.{◌≡◌, ℕ, ◌+◌, ◌-◌, ◌<◌, ◌≤◌, ◌++◌, ◌&&◌, List, [], ◌∷◌, Bool, true, false, length, take, zero, suc, max, min, Option, Some, None, arith, refl, ◌∙◌, ap, sym, subst, cond, eqb, leb, ltb}
+use Rattle.std.proofs.Common.{◌≡◌, ℕ, ◌+◌, ◌-◌, ◌<◌, ◌≤◌, ◌++◌, ◌&&◌, List, [], ◌∷◌, Bool, true, false, length, take, get_or, zero, suc, max, min, Option, Some, None, arith, refl, ◌∙◌, ap, sym, subst, cond, eqb, leb, ltb}
+use Rattle.std.proofs.Math.Seq.{take-length}
 use Rattle.std.proofs.lemmas.Bool.{and_parts}
 use Rattle.std.proofs.lemmas.Bool.Decides.{nat_tests}
 use Rattle.gm_base.specs.Extent.{Extent, meets}
 use Rattle.gm_base.specs.declared.numbers.TheConstants.{PAGE_LIMIT}
-use Rattle.gm_file.specs.Ranges.{met, meets_range, parts_of, range_at}
+use Rattle.gm_file.specs.Ranges.{met, meets_range}
 use Rattle.gm_file.specs.declared.ranges.BoundRange.{BoundRange}
 use Rattle.gm_flat.specs.Calls.{bound_range, part_span, part_spans, put_by_index, slots_of_file, whole_spans}
 use Rattle.gm_flat.specs.FlatState.{FileState, file_by_number, in_use}
@@ -24,10 +25,6 @@ abbrev pub nth : ℕ → List SlotView → Option SlotView
 nth k [] = None
 nth zero (s ∷ ss) = Some s
 nth (suc k) (s ∷ ss) = nth k ss
-
-abbrev maybe_range : Option SlotView → Option BoundRange
-maybe_range None = None
-maybe_range (Some s) = Some (range_of s)
 
 pub parts_meeting : (lo hi : ℕ) (ss : List SlotView) → part_spans lo hi ss ≡ spans_of lo hi (meeting lo hi ss)
 parts_meeting lo hi [] = refl
@@ -51,10 +48,20 @@ met_meeting lo hi (s ∷ ss) lt = let e = same_test lo hi s lt in rw e (by_test 
     by_test true h = ap (λ (rs : List BoundRange). range_of s ∷ rs) h
     by_test false h = h
 
-range_nth : (k : ℕ) (ss : List SlotView) → range_at k (ranges_of ss) ≡ maybe_range (nth k ss)
-range_nth k [] = refl
-range_nth zero (s ∷ ss) = refl
-range_nth (suc k) (s ∷ ss) = range_nth k ss
+length_ranges : (ss : List SlotView) → length (ranges_of ss) ≡ length ss
+length_ranges [] = refl
+length_ranges (s ∷ ss) = ap (λ (n : ℕ). suc n) (length_ranges ss)
+
+-- number k of the ranges of slots is that of slot number k
+range_nth : (k : ℕ) (ss : List SlotView) (d : BoundRange) → k < length (ranges_of ss) → (s : SlotView) × (nth k ss ≡ Some s) × (s.id ≡ (get_or (ranges_of ss) k d).slot)
+range_nth k [] d h = absurd (omega arith)
+range_nth zero (s ∷ ss) d h = (s, refl, refl)
+range_nth (suc k) (s ∷ ss) d h = range_nth k ss d (omega arith)
+
+-- the ranges that meet are those of the slots that meet
+met_are : (all : List SlotView) (fd lo hi : ℕ) (bound rs : List BoundRange) → lo < hi → bound ≡ ranges_of (slots_of_file fd all) → rs ≡ met lo hi bound → rs ≡ ranges_of (meeting lo hi (slots_of_file fd all))
+met_are all fd lo hi bound rs lt b m =
+    m ∙ ap (λ (bs : List BoundRange). met lo hi bs) b ∙ met_meeting lo hi (slots_of_file fd all) lt
 
 -- what is known of each slot, and of those that meet the range
 known_put : (all : List SlotView) (s : SlotView) (ss : List SlotView) → IsKnown all s → AllKnown all ss → AllKnown all (put_by_index s ss)
@@ -144,63 +151,43 @@ at_nth all lo hi (suc k) s (x ∷ xs) h e =
 pub next_one : {all : List SlotView} {lo hi k : ℕ} {s : SlotView} {xs : List SlotView} → At all lo hi k s xs → spans_of lo hi (take (k + 1) xs) ≡ spans_of lo hi (take k xs) ++ part_span lo hi s ∷ []
 next_one {lo = lo} {hi = hi} {k = k} {s = s} {xs = xs} a = subst (λ (n : ℕ). spans_of lo hi (take n xs) ≡ spans_of lo hi (take k xs) ++ part_span lo hi s ∷ []) (plus k) a.next
 
-abbrev pub triple : ℕ → ℕ → ℕ → Option (ℕ × ℕ × ℕ)
-triple a b c = Some (a, b, c)
-
-no_triple : {a b c : ℕ} → None ≡ triple a b c → ⊥
-no_triple e = cc
-
-abbrev id_part : Option (ℕ × ℕ × ℕ) → ℕ
-id_part None = 0
-id_part (Some t) = t.2
-
-some_parts : (o : Option SlotView) (from to id : ℕ) → parts_of (maybe_range o) ≡ triple from to id → (s : SlotView) × (o ≡ Some s) × (s.id ≡ id)
-some_parts None from to id e = absurd (no_triple e)
-some_parts (Some s) from to id e = (s, refl, ap id_part e)
-
 some_same : (a b : SlotView) → Some a ≡ Some b → a ≡ b
 some_same a b e = cc
 
-pub found : (all : List SlotView) (fd lo hi from to id k : ℕ) (bound : List BoundRange) (s : SlotView) → lo < hi → AllKnown all all → bound ≡ ranges_of (slots_of_file fd all) → parts_of (range_at k (met lo hi bound)) ≡ triple from to id → slot_by_id all id ≡ Some s → At all lo hi k s (meeting lo hi (slots_of_file fd all))
-found all fd lo hi from to id k bound s lt known b e is =
+-- number k of the ranges that meet is that of a known slot
+one_there : (all : List SlotView) (fd lo hi k : ℕ) (bound rs : List BoundRange) (d : BoundRange) → lo < hi → AllKnown all all → bound ≡ ranges_of (slots_of_file fd all) → rs ≡ met lo hi bound → k < length rs → (s : SlotView) × (slot_by_id all (get_or rs k d).slot ≡ Some s) × At all lo hi k s (meeting lo hi (slots_of_file fd all))
+one_there all fd lo hi k bound rs d lt known b m less =
     let own = slots_of_file fd all in
     let xs = meeting lo hi own in
-    let r : range_at k (met lo hi bound) ≡ maybe_range (nth k xs) = ap (λ (rs : List BoundRange). range_at k (met lo hi rs)) b ∙ ap (λ (rs : List BoundRange). range_at k rs) (met_meeting lo hi own lt) ∙ range_nth k xs in
-    let p = some_parts (nth k xs) from to id (sym (ap parts_of r) ∙ e) in
+    let e : rs ≡ ranges_of xs = met_are all fd lo hi bound rs lt b m in
+    let p = range_nth k xs d (subst (λ (l : List BoundRange). k < length l) e less) in
     let a = at_nth all lo hi k p.0 xs (all_meet all lo hi own (known_file all fd all known)) p.1 in
-    let q : p.0 ≡ s = some_same p.0 s (sym a.known.by_id ∙ ap (λ (n : ℕ). slot_by_id all n) p.2 ∙ is) in
-    subst (λ (y : SlotView). At all lo hi k y xs) q a
+    let id : (get_or rs k d).slot ≡ p.0.id = ap (λ (l : List BoundRange). (get_or l k d).slot) e ∙ sym p.2 in
+    (p.0, ap (λ (n : ℕ). slot_by_id all n) id ∙ a.known.by_id, a)
+
+pub found : (all : List SlotView) (fd lo hi k : ℕ) (bound rs : List BoundRange) (d : BoundRange) (s : SlotView) → lo < hi → AllKnown all all → bound ≡ ranges_of (slots_of_file fd all) → rs ≡ met lo hi bound → k < length rs → slot_by_id all (get_or rs k d).slot ≡ Some s → At all lo hi k s (meeting lo hi (slots_of_file fd all))
+found all fd lo hi k bound rs d s lt known b m less is =
+    let p = one_there all fd lo hi k bound rs d lt known b m less in
+    subst (λ (y : SlotView). At all lo hi k y (meeting lo hi (slots_of_file fd all))) (some_same p.0 s (sym p.1 ∙ is)) p.2
 
 -- a slot that is met is there
-pub is_there : (all : List SlotView) (fd lo hi from to id k : ℕ) (bound : List BoundRange) → lo < hi → AllKnown all all → bound ≡ ranges_of (slots_of_file fd all) → parts_of (range_at k (met lo hi bound)) ≡ triple from to id → slot_by_id all id ≡ None → ⊥
-is_there all fd lo hi from to id k bound lt known b e is =
-    let own = slots_of_file fd all in
-    let xs = meeting lo hi own in
-    let r : range_at k (met lo hi bound) ≡ maybe_range (nth k xs) = ap (λ (rs : List BoundRange). range_at k (met lo hi rs)) b ∙ ap (λ (rs : List BoundRange). range_at k rs) (met_meeting lo hi own lt) ∙ range_nth k xs in
-    let p = some_parts (nth k xs) from to id (sym (ap parts_of r) ∙ e) in
-    let a = at_nth all lo hi k p.0 xs (all_meet all lo hi own (known_file all fd all known)) p.1 in
-    clash p.0 (sym is ∙ sym (ap (λ (n : ℕ). slot_by_id all n) p.2) ∙ a.known.by_id)
+pub is_there : (all : List SlotView) (fd lo hi k : ℕ) (bound rs : List BoundRange) (d : BoundRange) → lo < hi → AllKnown all all → bound ≡ ranges_of (slots_of_file fd all) → rs ≡ met lo hi bound → k < length rs → slot_by_id all (get_or rs k d).slot ≡ None → ⊥
+is_there all fd lo hi k bound rs d lt known b m less is =
+    let p = one_there all fd lo hi k bound rs d lt known b m less in
+    clash p.0 (sym is ∙ p.1)
   where
     clash : (s : SlotView) → None ≡ Some s → ⊥
     clash s e = cc
 
-none_left : (k : ℕ) (xs : List SlotView) → nth k xs ≡ None → take k xs ≡ xs
-none_left zero [] e = refl
-none_left (suc k) [] e = refl
-none_left zero (x ∷ xs) e = absurd (cc)
-none_left (suc k) (x ∷ xs) e = ap (λ (ys : List SlotView). x ∷ ys) (none_left k xs e)
-
-none_parts : (o : Option SlotView) → parts_of (maybe_range o) ≡ None → o ≡ None
-none_parts None e = refl
-none_parts (Some s) e = absurd (cc)
-
 -- all are pushed
-pub all_found : (all : List SlotView) (fd lo hi k : ℕ) (bound : List BoundRange) → lo < hi → bound ≡ ranges_of (slots_of_file fd all) → parts_of (range_at k (met lo hi bound)) ≡ None → spans_of lo hi (take k (meeting lo hi (slots_of_file fd all))) ≡ part_spans lo hi (slots_of_file fd all)
-all_found all fd lo hi k bound lt b e =
+pub all_found : (all : List SlotView) (fd lo hi k : ℕ) (bound rs : List BoundRange) → lo < hi → bound ≡ ranges_of (slots_of_file fd all) → rs ≡ met lo hi bound → k ≡ length rs → spans_of lo hi (take k (meeting lo hi (slots_of_file fd all))) ≡ part_spans lo hi (slots_of_file fd all)
+all_found all fd lo hi k bound rs lt b m is =
     let own = slots_of_file fd all in
     let xs = meeting lo hi own in
-    let r : range_at k (met lo hi bound) ≡ maybe_range (nth k xs) = ap (λ (rs : List BoundRange). range_at k (met lo hi rs)) b ∙ ap (λ (rs : List BoundRange). range_at k rs) (met_meeting lo hi own lt) ∙ range_nth k xs in
-    ap (λ (ss : List SlotView). spans_of lo hi ss) (none_left k xs (none_parts (nth k xs) (sym (ap parts_of r) ∙ e))) ∙ sym (parts_meeting lo hi own)
+    let e : k ≡ length xs = is ∙ ap (λ (l : List BoundRange). length l) (met_are all fd lo hi bound rs lt b m) ∙ length_ranges xs in
+    ap (λ (n : ℕ). spans_of lo hi (take n xs)) e
+    ∙ ap (λ (ss : List SlotView). spans_of lo hi ss) (take-length xs)
+    ∙ sym (parts_meeting lo hi own)
 
 -- a close takes each slot whole
 pub whole : (all ss : List SlotView) → AllKnown all ss → part_spans 0 PAGE_LIMIT ss ≡ whole_spans ss

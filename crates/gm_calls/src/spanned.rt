@@ -33,13 +33,11 @@ pub(crate) fn put_parts(slots: &Slots, fd: u32, file: &File, lo: u64, hi: u64, s
     ensures { spans.new.list ≡ spans.old.list ++ part_spans lo hi (slots_of_file fd slots.now.slots) }
 {
     let _file = fd;
-    let mut at = 0;
-    while let Some((_, _, id)) = file.bound_in(lo, hi, at) {
-        match slots.by_id(id) {
+    for range in file.bound_within(lo, hi) {
+        match slots.by_id(range.slot) {
             Some(slot) => put(spans, part_of(&slot, lo, hi)),
             None => unreachable!(),
         }
-        at += 1;
     }
 }
 

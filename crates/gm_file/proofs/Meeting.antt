@@ -39,6 +39,24 @@ ends_rise rs a i j d l h = order (cases_order i j)
     order (inr (inl less)) = omega (arith, in_order 0 rs i j d a less h, (begins 0 rs j d a h).1)
     order (inr (inr more)) = absurd (omega arith)
 
+-- their starts rise
+pub starts_rise : (rs : List BoundRange) → LieApart 0 rs → IsNonDecreasingBy (λ (r : BoundRange). r.lo) rs
+starts_rise rs a i j d l h = order (cases_order i j)
+  where
+    order : ((i ≡ j) ⊎ ((i < j) ⊎ (j < i))) → (get_or rs i d).lo ≤ (get_or rs j d).lo
+    order (inl e) = same (ap (λ k. (get_or rs k d).lo) e)
+      where
+        same : (get_or rs i d).lo ≡ (get_or rs j d).lo → (get_or rs i d).lo ≤ (get_or rs j d).lo
+        same e = omega arith
+    order (inr (inl less)) = omega (arith, in_order 0 rs i j d a less h, (begins 0 rs i d a (omega arith)).1)
+    order (inr (inr more)) = absurd (omega arith)
+
+-- without the first of them the others lie apart
+pub drop_apart : (low k : ℕ) (rs : List BoundRange) → LieApart low rs → LieApart low (drop k rs)
+drop_apart low zero rs a = a
+drop_apart low (suc k) [] a = tt
+drop_apart low (suc k) (r ∷ rs) a = drop_apart low k rs (apart_lower low r.hi rs (omega (arith, a.0, a.1)) a.3)
+
 -- none that begins at hi or later meets
 none_met : (low lo hi : ℕ) (rs : List BoundRange) → LieApart low rs → hi ≤ low → met lo hi rs ≡ []
 none_met low lo hi [] a h = refl
@@ -129,6 +147,43 @@ find_at low lo hi (suc k) at zero (r ∷ rs) d a o e is = absurd (omega arith)
 find_at low lo hi (suc k) at (suc j) (r ∷ rs) d a o e is =
     ap (λ (b : Bool). range_at at (cond b (r ∷ met lo hi rs) (met lo hi rs))) (missed (e.low 0 r (omega arith)))
     ∙ (find_at r.hi lo hi k at j rs d a.3 o (ended_next r rs lo k e) (omega arith) ∙ sym (begun_next hi j r rs d))
+  where
+    missed : r.hi ≤ lo → meets_range lo hi r ≡ false
+    missed l = grind (arith, nat_tests)
+
+-- the first k begin before hi, and the others at hi or later
+pub record Begun (rs : List BoundRange) (hi k : ℕ) : Type 0 where
+  pub within : k ≤ length rs
+  pub low : (i : ℕ) (d : BoundRange) → i < k → (get_or rs i d).lo < hi
+  pub high : (i : ℕ) (d : BoundRange) → k ≤ i → i < length rs → hi ≤ (get_or rs i d).lo
+
+begun_rest : (r : BoundRange) (rs : List BoundRange) (hi k : ℕ) → Begun (r ∷ rs) hi (suc k) → Begun rs hi k
+begun_rest r rs hi k b = record {
+  within = omega (arith, b.within);
+  low = λ i d h. b.low (suc i) d (omega arith);
+  high = λ i d h l. b.high (suc i) d (omega arith) (omega arith);
+}
+
+-- where all end past lo, those that begin before hi are the ones that meet
+met_front : (low lo hi k : ℕ) (rs : List BoundRange) → LieApart low rs → lo < hi → ((i : ℕ) (d : BoundRange) → i < length rs → lo < (get_or rs i d).hi) → Begun rs hi k → met lo hi rs ≡ take k rs
+met_front low lo hi zero [] a o h b = refl
+met_front low lo hi (suc k) [] a o h b = refl
+met_front low lo hi zero (r ∷ rs) a o h b =
+    none_met r.lo lo hi (r ∷ rs) (omega arith, a.1, a.2, a.3) (b.high 0 r (omega arith) (omega arith))
+met_front low lo hi (suc k) (r ∷ rs) a o h b =
+    ap (λ (t : Bool). cond t (r ∷ met lo hi rs) (met lo hi rs)) (is_met r.lo r.hi (b.low 0 r (omega arith)) (h 0 r (omega arith)))
+    ∙ ap (λ (l : List BoundRange). r ∷ l) (met_front r.hi lo hi k rs a.3 o (λ i d l. h (suc i) d (omega arith)) (begun_rest r rs hi k b))
+  where
+    is_met : (x y : ℕ) → x < hi → lo < y → (nat_lt lo hi && (nat_lt x hi && nat_lt lo y)) ≡ true
+    is_met x y l m = grind (arith, nat_tests)
+
+-- those that meet follow the first j, which end at lo or before it, and are the k after them, which begin before hi
+pub all_within : (low lo hi j k : ℕ) (rs : List BoundRange) → LieApart low rs → lo < hi → Ended rs lo j → Begun (drop j rs) hi k → met lo hi rs ≡ take k (drop j rs)
+all_within low lo hi zero k rs a o e b = met_front low lo hi k rs a o (λ i d l. e.high i d (omega arith) l) b
+all_within low lo hi (suc j) k [] a o e b = absurd (omega (arith, e.within))
+all_within low lo hi (suc j) k (r ∷ rs) a o e b =
+    ap (λ (t : Bool). cond t (r ∷ met lo hi rs) (met lo hi rs)) (missed (e.low 0 r (omega arith)))
+    ∙ all_within r.hi lo hi j k rs a.3 o (ended_next r rs lo j e) b
   where
     missed : r.hi ≤ lo → meets_range lo hi r ≡ false
     missed l = grind (arith, nat_tests)

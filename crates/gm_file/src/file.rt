@@ -7,7 +7,7 @@ ghost use Rattle.gm_file.specs.Ranges.{met, parts_of, range_at, slot_of, with_ra
 ghost use Rattle.gm_file.specs.Views.{unless_within};
 
 use crate::folios::Folios;
-use crate::ranges::{Bound, BoundRange, drop_slot, find_met, put_range};
+use crate::ranges::{Bound, BoundRange, all_met, drop_slot, find_met, put_range};
 use gm_base::{Folio, NoMemory, PAGE_LIMIT};
 use gm_radix::Radix;
 use std::alloc::Global;
@@ -188,5 +188,13 @@ impl File {
     {
         let range = find_met(&self.bound, lo, hi, at)?;
         Some((range.lo, range.hi, range.slot))
+    }
+
+    /// The bound ranges that have an index from `lo` on and below `hi`, in order of index. Two binary searches find all of
+    /// them.
+    pub fn bound_within(&self, lo: u64, hi: u64) -> &[BoundRange]
+        ensures { result.now ≡ met lo hi self.now.bound }
+    {
+        all_met(&self.bound, lo, hi)
     }
 }

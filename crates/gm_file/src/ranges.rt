@@ -29,6 +29,30 @@ pub(crate) fn count_ended(ranges: &[BoundRange], index: u64) -> usize
     ranges.partition_point(|range| range.hi <= index)
 }
 
+/// How many ranges begin before the index.
+pub(crate) fn count_begun(ranges: &[BoundRange], index: u64) -> usize
+    requires { LieApart 0 ranges.now }
+    ensures bound { result ≤ length ranges.now }
+    ensures low { (at : ℕ) (d : BoundRange) → at < result → (slice_index_or ranges.now at d).lo < index }
+    ensures high { (at : ℕ) (d : BoundRange) → result ≤ at → at < length ranges.now → index ≤ (slice_index_or ranges.now at d).lo }
+{
+    ranges.partition_point(|range| range.lo < index)
+}
+
+/// The ranges that have an index from `lo` on and below `hi`. They follow one another, so the first and the one after
+/// the last are sought.
+pub(crate) fn all_met(ranges: &[BoundRange], lo: u64, hi: u64) -> &[BoundRange]
+    requires { LieApart 0 ranges.now }
+    ensures { result.now ≡ met lo hi ranges.now }
+{
+    if hi <= lo {
+        return &ranges[..0];
+    }
+    let first = count_ended(ranges, lo);
+    let later = &ranges[first..];
+    &later[..count_begun(later, hi)]
+}
+
 /// Number `at` of the ranges that have an index from `lo` on and below `hi`. They follow one another, so the first is
 /// sought and the number added.
 pub(crate) fn find_met(ranges: &[BoundRange], lo: u64, hi: u64, at: u32) -> Option<BoundRange>

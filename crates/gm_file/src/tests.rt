@@ -8,6 +8,10 @@ fn folio(serial: u64, frame: u32) -> Folio {
     Folio { serial, frame }
 }
 
+fn range(lo: u64, hi: u64, slot: u32) -> BoundRange {
+    BoundRange { lo, hi, slot }
+}
+
 #[test]
 fn values_cross_threads() {
     crosses_threads::<Bound>();
@@ -79,6 +83,37 @@ fn the_ends_of_the_indexes(rt: HostRuntime) -> Result<(), Fail> {
         (0, u64::MAX, u32::MAX, None),
     ] {
         assert_eq!(rt; file.bound_in(lo, hi, at), found, "{lo} to {hi}");
+    }
+    Ok(())
+}
+
+#[test]
+fn ranges_within_others(rt: HostRuntime) -> Result<(), Fail> {
+    let mut file = File::new(rt.alloc(), 8, false).ok().ok_or("memory")?;
+    file.reserve(0, 3).ok().ok_or("memory")?;
+    assert_eq!(rt; file.bound_within(0, 8), [].as_slice());
+    assert_eq!(rt; file.bind(6, 8, 9), Ok(()));
+    assert_eq!(rt; file.bind(0, 2, 5), Ok(()));
+    assert_eq!(rt; file.bind(2, 3, 1), Ok(()));
+    let all = [range(0, 2, 5), range(2, 3, 1), range(6, 8, 9)];
+    for (lo, hi, first, end) in [
+        (0, 8, 0, 3),
+        (0, u64::MAX, 0, 3),
+        (1, 3, 0, 2),
+        (1, 2, 0, 1),
+        (2, 6, 1, 2),
+        (2, 7, 1, 3),
+        (3, 6, 0, 0),
+        (7, 8, 2, 3),
+        (8, u64::MAX, 0, 0),
+        (1, 1, 0, 0),
+        (7, 1, 0, 0),
+    ] {
+        assert_eq!(rt;
+            Some(file.bound_within(lo, hi)),
+            all.get(first..end),
+            "{lo} to {hi}"
+        );
     }
     Ok(())
 }
