@@ -20,6 +20,7 @@ pub struct Leaf {
 
 impl Leaf {
     /// Whether the page of this number is one of the leaf's.
+    #[inline(always)]
     pub fn covers(&self, page: u64) -> bool
         ensures { result ≡ covers self.now page }
     {
@@ -35,17 +36,22 @@ impl Leaf {
     }
 
     /// Whether the access can go by the leaf: it covers the page, has the kind, and may be written for a write.
+    #[inline(always)]
     pub fn serves(&self, access: Access) -> bool
         ensures { result ≡ serves self.now access }
     {
-        let permits = match access.op() {
-            Op::Read => true,
-            Op::Write(_) => self.writable,
-        };
+        // Most leaves don't cover a page, so that is looked at first.
+        if !self.covers(access.page().number()) {
+            return false;
+        }
         let is_same_kind = match (self.kind, access.kind()) {
             (Kind::Private, Kind::Private) | (Kind::Shared, Kind::Shared) => true,
             _ => false,
         };
-        self.covers(access.page().number()) && is_same_kind && permits
+        let permits = match access.op() {
+            Op::Read => true,
+            Op::Write(_) => self.writable,
+        };
+        is_same_kind && permits
     }
 }

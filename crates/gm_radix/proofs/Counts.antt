@@ -4,7 +4,7 @@ use Rattle.std.specs.Prelude.{Some, IsSome, nat_eq, if◌then◌else◌}
 use Rattle.std.proofs.lemmas.Bool.Decides.{nat_tests}
 use Rattle.std.proofs.lemmas.Bool.{eq-eqb}
 use Rattle.gm_radix.specs.Entries.{lookup, is_within, count_within, gap_from, Rises}
-use Rattle.gm_radix.proofs.Lists.{not_within, length-Rises}
+use Rattle.gm_radix.proofs.Lists.{not_within, within_none, length-Rises}
 
 module _ {V : Type 0} where
   pub count_within-append : (lo hi : ℕ) (l r : List (ℕ × V)) → count_within lo hi (l ++ r) ≡ count_within lo hi l + count_within lo hi r
@@ -31,6 +31,11 @@ module _ {V : Type 0} where
 
   inside : (lo hi : ℕ) (e : ℕ × V) → lo ≤ e.0 → e.0 < hi → is_within lo hi e ≡ true
   inside lo hi e p q = grind (arith, nat_tests)
+
+  -- none where the range has no index
+  pub count_within-none : (lo hi : ℕ) (es : List (ℕ × V)) → hi ≤ lo → count_within lo hi es ≡ 0
+  count_within-none lo hi [] p = refl
+  count_within-none lo hi (e ∷ es) p = rw (within_none lo hi e p) (count_within-none lo hi es p)
 
   -- all where they are inside
   pub count_within-inside : (lo hi a b : ℕ) (es : List (ℕ × V)) → Rises a b es → lo ≤ a → b ≤ hi → count_within lo hi es ≡ length es

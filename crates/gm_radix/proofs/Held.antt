@@ -1,6 +1,6 @@
 -- What the nodes of a slab hold: its order, how it is read, and what of it a change elsewhere leaves.
-use Rattle.std.proofs.Common.{◌≡◌, ℕ, zero, suc, ◌+◌, ◌-◌, ◌<◌, ◌≤◌, List, [], ◌∷◌, ◌++◌, length, ap, sym, ◌∙◌, subst, arith, length-append}
-use Rattle.std.specs.Prelude.{Some}
+use Rattle.std.proofs.Common.{◌≡◌, ℕ, zero, suc, ◌+◌, ◌-◌, ◌<◌, ◌≤◌, List, [], ◌∷◌, ◌++◌, length, ap, sym, ◌∙◌, subst, refl, arith, length-append}
+use Rattle.std.specs.Prelude.{Some, IsSome}
 use Rattle.std.specs.declared.option.Option.{Option}
 use Rattle.gm_base.specs.declared.numbers.TheConstants.{PAGE_LIMIT}
 use Rattle.gm_radix.specs.declared.node.Node.{Node}
@@ -17,7 +17,12 @@ module _ {V : Type 0} where
   Holds-order (leaf found low high) = omega arith
   Holds-order (fork found low high count l r is) = let a = Holds-order l in let b = Holds-order r in omega arith
 
-  -- and entries
+  -- a node stands under its key
+  pub Holds-found : {slots : List (Option (Node V))} {key lo hi : ℕ} {entries : List (ℕ × V)} → Holds slots key lo hi entries → IsSome (node_at slots key)
+  Holds-found (leaf found low high) = subst (λ (n : Option (Node V)). IsSome n) (sym found) refl
+  Holds-found (fork found low high count l r is) = subst (λ (n : Option (Node V)). IsSome n) (sym found) refl
+
+  -- and it has entries
   pub Holds-some : {slots : List (Option (Node V))} {key lo hi : ℕ} {entries : List (ℕ × V)} → Holds slots key lo hi entries → 0 < length entries
   Holds-some (leaf found low high) = omega arith
   Holds-some (fork {left = ls} {right = rs} found low high count l r is) = rw is (omega (arith, length-append ls rs, Holds-some l))

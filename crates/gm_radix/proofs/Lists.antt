@@ -83,6 +83,18 @@ module _ {V : Type 0} where
   without-apart lo hi a b (e ∷ es) h o =
       rw (not_within lo hi a b e h.0 o) (ap (λ (x : List (ℕ × V)). e ∷ x) (without-apart lo hi (e.0 + 1) b es h.1 (elim o [ inl p ↦ inl p | inr q ↦ inr (omega arith) ])))
 
+  -- nothing is within a range with no index
+  pub within_none : (lo hi : ℕ) (e : ℕ × V) → hi ≤ lo → is_within lo hi e ≡ false
+  within_none lo hi e p = grind (arith, nat_tests)
+
+  pub without-none : (lo hi : ℕ) (es : List (ℕ × V)) → hi ≤ lo → without lo hi es ≡ es
+  without-none lo hi [] p = refl
+  without-none lo hi (e ∷ es) p = rw (within_none lo hi e p) (ap (λ (xs : List (ℕ × V)). e ∷ xs) (without-none lo hi es p))
+
+  pub within-none : (lo hi : ℕ) (es : List (ℕ × V)) → hi ≤ lo → within lo hi es ≡ []
+  within-none lo hi [] p = refl
+  within-none lo hi (e ∷ es) p = rw (within_none lo hi e p) (within-none lo hi es p)
+
   -- a put in the place of the only entry
   pub put_same : (index : ℕ) (value : V) (at : ℕ) (other : V) → at ≡ index → put index value ((at, other) ∷ []) ≡ (index, value) ∷ []
   put_same index value at other p = rw (le-ltb index at (omega arith), eq-eqb at index p) refl

@@ -116,6 +116,9 @@ impl<V: Copy> Radix<V> {
         ensures count { result + length self.new.entries ≡ length self.old.entries }
         ensures spare { self.new.spare ≡ self.old.spare }
     {
+        if hi <= lo {
+            return 0;
+        }
         let Some(key) = self.root else {
             return 0;
         };
@@ -134,6 +137,9 @@ impl<V: Copy> Radix<V> {
         ensures capacity { vec_capacity out.old ≤ vec_capacity out.new }
         ensures spare { self.new.spare ≡ self.old.spare }
     {
+        if hi <= lo {
+            return;
+        }
         if let Some(key) = self.root {
             tree::collect(&self.nodes, key, 0, PAGE_LIMIT, lo, hi, out);
             self.root = tree::discard(&mut self.nodes, key, 0, PAGE_LIMIT, lo, hi).key;
@@ -145,6 +151,9 @@ impl<V: Copy> Radix<V> {
     pub fn count_in(&self, lo: u64, hi: u64) -> u64
         ensures { result ≡ count_within lo hi self.now.entries }
     {
+        if hi <= lo {
+            return 0;
+        }
         match self.root {
             Some(key) => tree::count_in(&self.nodes, key, 0, PAGE_LIMIT, lo, hi),
             None => 0,

@@ -15,13 +15,16 @@ pub(crate) fn get<V: Copy>(nodes: &Slab<Node<V>>, key: usize, index: u64) -> Opt
     requires { IsTree nodes.now.slots key }
     ensures { result ≡ lookup index (under nodes.now.slots key) }
 {
-    match nodes[key] {
-        Node::Leaf(at, value) => if at == index { Some(value) } else { None },
-        Node::Fork(parts) => {
-            if index < parts.block.pivot {
-                get(nodes, parts.left, index)
-            } else {
-                get(nodes, parts.right, index)
+    let mut key = key;
+    loop {
+        match &nodes[key] {
+            Node::Leaf(at, value) => return if *at == index { Some(*value) } else { None },
+            Node::Fork(parts) => {
+                key = if index < parts.block.pivot {
+                    parts.left
+                } else {
+                    parts.right
+                };
             }
         }
     }

@@ -1,5 +1,5 @@
 -- How many entries are before a page, and what a put, a removal and an edge do to that.
-use Rattle.std.proofs.Common.{◌≡◌, ℕ, ◌+◌, ◌<◌, ◌≤◌, List, [], ◌∷◌, length, refl, sym, ap, ◌∙◌, arith, Bool, true, false, ◌&&◌, cond}
+use Rattle.std.proofs.Common.{◌≡◌, ℕ, ◌+◌, ◌<◌, ◌≤◌, List, [], ◌∷◌, length, refl, ap, ◌∙◌, arith, Bool, true, false, ◌&&◌, cond}
 use Rattle.std.specs.Prelude.{None, Some, IsSome, nat_eq, nat_lt, nat_le}
 use Rattle.std.proofs.lemmas.Bool.Decides.{nat_tests}
 use Rattle.gm_base.specs.declared.numbers.TheConstants.{PAGE_LIMIT}
@@ -74,6 +74,27 @@ pub count_after : {V : Type 0} (n lo hi : ℕ) (es : List (ℕ × V)) → lo ≤
 count_after n lo hi [] p q = refl
 count_after n lo hi (e ∷ es) p q =
     ap (λ m. m + count_within 0 hi (e ∷ es)) (removed n lo hi e es) ∙ after_step e.0 n lo hi _ _ _ _ p q (count_after n lo hi es p q)
+
+le_step : (x lo hi c d : ℕ) → lo ≤ hi → c ≤ d → cond (nat_le 0 x && nat_lt x lo) (c + 1) c ≤ cond (nat_le 0 x && nat_lt x hi) (d + 1) d
+le_step x lo hi c d p q = grind (arith, nat_tests)
+
+-- as many are before a later page, or more
+count_le : {V : Type 0} (lo hi : ℕ) (es : List (ℕ × V)) → lo ≤ hi → count_within 0 lo es ≤ count_within 0 hi es
+count_le lo hi [] p = omega arith
+count_le lo hi (e ∷ es) p = le_step e.0 lo hi _ _ p (count_le lo hi es p)
+
+none_here : (x lo hi c d : ℕ) → lo ≤ hi → c ≤ d → cond (nat_le 0 x && nat_lt x hi) (d + 1) d ≤ cond (nat_le 0 x && nat_lt x lo) (c + 1) c → (nat_le lo x && nat_lt x hi) ≡ false
+none_here x lo hi c d p q h = grind (arith, nat_tests)
+
+none_later : (x lo hi c d : ℕ) → lo ≤ hi → c ≤ d → cond (nat_le 0 x && nat_lt x hi) (d + 1) d ≤ cond (nat_le 0 x && nat_lt x lo) (c + 1) c → d ≤ c
+none_later x lo hi c d p q h = grind (arith, nat_tests)
+
+-- where no more are before the later of two pages, a removal between them takes none
+pub without_none : {V : Type 0} (lo hi : ℕ) (es : List (ℕ × V)) → lo ≤ hi → count_within 0 hi es ≤ count_within 0 lo es → without lo hi es ≡ es
+without_none lo hi [] p h = refl
+without_none {V} lo hi (e ∷ es) p h =
+    ap (λ (b : Bool). cond b (without lo hi es) (e ∷ without lo hi es)) (none_here e.0 lo hi (count_within 0 lo es) (count_within 0 hi es) p (count_le lo hi es p) h)
+    ∙ ap (λ (xs : List (ℕ × V)). e ∷ xs) (without_none lo hi es p (none_later e.0 lo hi (count_within 0 lo es) (count_within 0 hi es) p (count_le lo hi es p) h))
 
 -- where no index from one on and before another has a value, as many are before both
 pub count_gap : {V : Type 0} (m n : ℕ) (es : List (ℕ × V)) → m ≤ n → ((k : ℕ) → m ≤ k → k < n → IsSome (lookup k es) → ⊥) → count_within 0 n es ≡ count_within 0 m es

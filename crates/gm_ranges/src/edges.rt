@@ -13,7 +13,14 @@ use gm_radix::Radix;
 pub(crate) fn value_before(edges: &Radix<()>, page: u64) -> bool
     ensures { result ≡ odd (count_within 0 page edges.now.entries) }
 {
-    edges.count_in(0, page) % 2 == 1
+    is_odd(edges.count_in(0, page))
+}
+
+/// Whether a number is odd.
+pub(crate) fn is_odd(number: u64) -> bool
+    ensures { result ≡ odd number }
+{
+    number % 2 == 1
 }
 
 /// Puts an edge at a page below the limit that has none, if the value turns there. It takes no memory but what is kept.
@@ -43,9 +50,11 @@ pub(crate) fn paint(edges: &mut Radix<()>, span: Span, value: bool)
     ensures spare { edges.old.spare ≤ edges.new.spare + 2 }
 {
     let (lo, hi) = (span.lo(), span.hi());
-    let before = value_before(edges, lo);
-    let after = value_before(edges, hi + 1);
-    edges.discard(lo, hi + 1);
-    turn(edges, lo, is_turn(before, value));
-    turn(edges, hi, is_turn(after, value));
+    let before = edges.count_in(0, lo);
+    let after = edges.count_in(0, hi + 1);
+    if before < after {
+        edges.discard(lo, hi + 1);
+    }
+    turn(edges, lo, is_turn(is_odd(before), value));
+    turn(edges, hi, is_turn(is_odd(after), value));
 }

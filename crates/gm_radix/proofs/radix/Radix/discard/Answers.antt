@@ -1,7 +1,8 @@
-use Rattle.std.proofs.Common.{arith}
+use Rattle.std.proofs.Common.{arith, sym}
 use Rattle.gm_radix.specs.Nodes.{under}
 use Rattle.gm_radix.specs.Entries.{without}
 use Rattle.gm_radix.proofs.Frames.{entries_of-HoldsRest}
+use Rattle.gm_radix.proofs.Lists.{without-none}
 use Rattle.gm_radix.proofs.Kept.{IsKept-HoldsRest}
 use Rattle.gm_radix.proofs.radix.Radix.discard.Goals as goal
 
@@ -21,3 +22,6 @@ pub returns-clause-count : goal.returns-clause-count
 returns-clause-count g c =
     let kept = rw c.in-Some.is at c.self.invariant in
     rw (entries_of-HoldsRest _ _ _ _ c.discard-rest.result.key (omega arith) c.discard-rest.ensures.rest, ← c.self.view_is, c.in-Some.is) c.discard-rest.ensures.gone
+
+pub returns-then-hi-lo-clause-entries : goal.returns-then-hi-lo-clause-entries
+returns-then-hi-lo-clause-entries g c = sym (without-none c.args.lo c.args.hi c.args.self.now.entries c.if-hi-lo.true)

@@ -1,7 +1,9 @@
-use Rattle.std.proofs.Common.{arith}
+use Rattle.std.proofs.Common.{arith, sym}
+use Rattle.std.proofs.lemmas.List.{append-nil}
 use Rattle.gm_radix.specs.Nodes.{under}
 use Rattle.gm_radix.specs.Entries.{without}
 use Rattle.gm_radix.proofs.Frames.{entries_of-HoldsRest}
+use Rattle.gm_radix.proofs.Lists.{without-none, within-none}
 use Rattle.gm_radix.proofs.Kept.{IsKept-HoldsRest}
 use Rattle.gm_radix.proofs.radix.Radix.drain.Goals as goal
 
@@ -16,3 +18,12 @@ pub returns-in-Some-clause-entries : goal.returns-in-Some-clause-entries
 returns-in-Some-clause-entries g c =
     let kept = rw c.in-Some.is at c.self.invariant in
     rw (← c.self.view_is, c.in-Some.is) (entries_of-HoldsRest _ _ _ _ c.discard.result.key (omega arith) c.discard.ensures.rest)
+
+pub returns-then-hi-lo-clause-entries : goal.returns-then-hi-lo-clause-entries
+returns-then-hi-lo-clause-entries g c = sym (without-none c.args.lo c.args.hi c.args.self.now.entries c.if-hi-lo.true)
+
+pub returns-then-hi-lo-clause-taken : goal.returns-then-hi-lo-clause-taken
+returns-then-hi-lo-clause-taken g c = rw (within-none c.args.lo c.args.hi c.args.self.now.entries c.if-hi-lo.true) (sym (append-nil c.args.out.now.items))
+
+pub returns-then-hi-lo-clause-len : goal.returns-then-hi-lo-clause-len
+returns-then-hi-lo-clause-len g c = rw (within-none c.args.lo c.args.hi c.args.self.now.entries c.if-hi-lo.true) (omega arith)
