@@ -35,8 +35,8 @@ fn fitted(alloc: Global, spans: &Spans) -> Result<Spans, NoMemory>
     Ok(copy)
 }
 
-/// Where a bracket hasn't begun, its spans have no more room than they need: an entry keeps no spare memory. The list that
-/// had more becomes the spare one.
+/// Where a bracket hasn't begun, its spans have no more room than they need: an entry keeps no spare memory. The list
+/// that had more becomes the spare one.
 fn trim(alloc: Global, x: &mut InProgress, spare: &mut Option<Spans>) -> Result<(), NoMemory>
     ensures ok { OnOk result (x.new ≡ trimmed x.old) }
     ensures err { OnErr result (x.new ≡ x.old) }

@@ -51,7 +51,8 @@ impl Spans {
         Ok(())
     }
 
-    /// Empties the list, which then has this room. It takes memory only where it had less, and at NoMemory nothing changes.
+    /// Empties the list, which then has this room. It takes memory only where it had less, and at `NoMemory` nothing
+    /// changes.
     pub fn renew(&mut self, room: u32) -> Result<(), NoMemory>
         ensures ok { OnOk result (self.new ≡ record { list = []; spare = room }) }
         ensures enough { room ≤ length self.old.list + self.old.spare → IsOk result }

@@ -28,7 +28,7 @@ fn spans_are_emptied(rt: HostRuntime) -> Result<(), Fail> {
     let span = Span::new(0, 1).ok_or("a span")?;
     spans.push(span).ok().ok_or("memory")?;
     spans.renew(2).ok().ok_or("memory")?;
-    assert_eq!(rt; spans.list(), [].as_slice());
+    assert_eq!(rt; spans.list().len(), 0);
     spans.push(span).ok().ok_or("memory")?;
     assert_eq!(rt; spans.list(), [span].as_slice());
     Ok(())
