@@ -19,6 +19,8 @@ use std::marker::Model;
 #[derive(Drop)]
 pub struct Callers {
     list: Vec<Caller>,
+    // The memory of spans that a judgement left unused, for a later one.
+    spare: Option<Spans>,
 }
 
 impl Model for Callers {
@@ -44,7 +46,7 @@ impl Callers {
                 gone: false,
             })?;
         }
-        Ok(Callers { list })
+        Ok(Callers { list, spare: None })
     }
 
     /// How many there are.
@@ -124,7 +126,7 @@ impl Callers {
         ensures room { OnOk result ((caller_at self.old c).call ≡ None → IsRoomy (caller_at self.new c).spans) }
         ensures err { OnErr result (self.new ≡ self.old) }
     {
-        make_room(alloc, &mut self.list[c as usize])
+        make_room(alloc, &mut self.list[c as usize], &mut self.spare)
     }
 
     /// The spans for the judgement of the caller's next call.
@@ -140,6 +142,13 @@ impl Callers {
             Some(spans) => spans,
             None => unreachable!(),
         }
+    }
+
+    /// Takes back spans that no call keeps: their memory serves a later judgement. No caller changes.
+    pub fn give_back(&mut self, spans: Spans)
+        ensures { self.new ≡ self.old }
+    {
+        self.spare = Some(spans);
     }
 
     /// The caller's call is in progress.

@@ -1,6 +1,7 @@
 //! Room for a caller's next turn.
 
-ghost use Rattle.std.specs.Prelude.{◌≡◌, ◌<◌, ◌≤◌, IfOk, OnErr, OnOk};
+ghost use Rattle.std.specs.Prelude.{◌≡◌, ◌<◌, ◌≤◌, [], IfOk, OnErr, OnOk};
+ghost use Rattle.gm_base.specs.declared.numbers.TheConstants.{SLOT_IDS};
 ghost use Rattle.gm_callers.specs.Rooming.{IsEmptyOrRoomy, reserved, trimmed};
 
 use crate::caller::{Caller, InProgress};
@@ -34,31 +35,50 @@ fn fitted(alloc: Global, spans: &Spans) -> Result<Spans, NoMemory>
     Ok(copy)
 }
 
-/// Where a bracket hasn't begun, its spans have no more room than they need: an entry keeps no spare memory.
-fn trim(alloc: Global, x: &mut InProgress) -> Result<(), NoMemory>
+/// Where a bracket hasn't begun, its spans have no more room than they need: an entry keeps no spare memory. The list
+/// that had more becomes the spare one.
+fn trim(alloc: Global, x: &mut InProgress, spare: &mut Option<Spans>) -> Result<(), NoMemory>
     ensures ok { OnOk result (x.new ≡ trimmed x.old) }
     ensures err { OnErr result (x.new ≡ x.old) }
 {
     if x.call.done.is_none() {
         if let Some(spans) = &x.spans {
             let copy = fitted(alloc, spans)?;
-            x.spans = Some(copy);
+            *spare = x.spans.replace(copy);
         }
     }
     Ok(())
 }
 
+/// No span, with room for a judgement. Where there are spare spans they are used again.
+fn emptied(alloc: Global, spare: &mut Option<Spans>) -> Result<Spans, NoMemory>
+    ensures list { IfOk result (λ spans. spans.list ≡ []) }
+    ensures room { IfOk result (λ spans. spans.spare ≡ SLOT_IDS) }
+{
+    match spare.take() {
+        Some(mut spans) => {
+            spans.renew(SLOT_IDS)?;
+            Ok(spans)
+        }
+        None => Spans::new(alloc, SLOT_IDS),
+    }
+}
+
 /// Makes room for the caller's next turn: for the judgement of its next call, or for the entry of its bracket.
-pub fn make_room(alloc: Global, caller: &mut Caller) -> Result<(), NoMemory>
+pub fn make_room(
+    alloc: Global,
+    caller: &mut Caller,
+    spare: &mut Option<Spans>,
+) -> Result<(), NoMemory>
     requires { IsEmptyOrRoomy caller.old.spans }
     ensures ok { OnOk result (caller.new ≡ reserved caller.old) }
     ensures err { OnErr result (caller.new ≡ caller.old) }
 {
     match &mut caller.call {
-        Some(x) => trim(alloc, x),
+        Some(x) => trim(alloc, x, spare),
         None => {
             if caller.spans.is_none() {
-                let spans = Spans::new(alloc, SLOT_IDS)?;
+                let spans = emptied(alloc, spare)?;
                 caller.spans = Some(spans);
             }
             Ok(())

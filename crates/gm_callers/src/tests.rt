@@ -76,3 +76,16 @@ fn a_conversion_keeps_others_from_its_lock(rt: HostRuntime) -> Result<(), Fail> 
     assert_eq!(rt; callers.holder(1, &of_a_file), None);
     Ok(())
 }
+
+#[test]
+fn spans_given_back_are_emptied(rt: HostRuntime) -> Result<(), Fail> {
+    let span = Span::new(1, 2).ok_or("span")?;
+    let mut callers = Callers::new(rt.alloc(), 1).ok().ok_or("memory")?;
+    callers.reserve(rt.alloc(), 0).ok().ok_or("memory")?;
+    let mut spans = callers.take_spans(0);
+    spans.push(span).ok().ok_or("memory")?;
+    callers.give_back(spans);
+    callers.reserve(rt.alloc(), 0).ok().ok_or("memory")?;
+    assert_eq!(rt; callers.take_spans(0).list().len(), 0);
+    Ok(())
+}

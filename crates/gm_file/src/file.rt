@@ -190,8 +190,8 @@ impl File {
         Some((range.lo, range.hi, range.slot))
     }
 
-    /// The bound ranges that have an index from `lo` on and below `hi`, in order of index. Two binary searches find all of
-    /// them.
+    /// The bound ranges that have an index from `lo` on and below `hi`, in order of index. Two binary searches find all
+    /// of them.
     pub fn bound_within(&self, lo: u64, hi: u64) -> &[BoundRange]
         ensures { result.now ≡ met lo hi self.now.bound }
     {

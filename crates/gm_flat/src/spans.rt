@@ -1,6 +1,6 @@
 //! A list of spans with room to spare.
 
-ghost use Rattle.std.specs.Prelude.{◌≡◌, ◌+◌, ◌-◌, ◌<◌, ◌≤◌, ◌++◌, ◌∷◌, [], OnOk, OnErr, IfOk, IsOk};
+ghost use Rattle.std.specs.Prelude.{◌≡◌, ◌+◌, ◌-◌, ◌<◌, ◌≤◌, ◌++◌, ◌∷◌, [], length, OnOk, OnErr, IfOk, IsOk};
 ghost use Rattle.gm_flat.specs.Roomy.{AreOfPages};
 
 use gm_base::{NoMemory, Span};
@@ -48,6 +48,21 @@ impl Spans {
         let _hi = span.hi();
         self.items.push(span)?;
         self.spare = self.spare.saturating_sub(1);
+        Ok(())
+    }
+
+    /// Empties the list, which then has this room. It takes memory only where it had less, and at `NoMemory` nothing
+    /// changes.
+    pub fn renew(&mut self, room: u32) -> Result<(), NoMemory>
+        ensures ok { OnOk result (self.new ≡ record { list = []; spare = room }) }
+        ensures enough { room ≤ length self.old.list + self.old.spare → IsOk result }
+        ensures err { OnErr result (self.new ≡ self.old) }
+    {
+        if self.items.capacity() < room as usize {
+            self.items.reserve(room as usize - self.items.len())?;
+        }
+        self.items.clear();
+        self.spare = room;
         Ok(())
     }
 

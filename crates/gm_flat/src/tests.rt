@@ -22,6 +22,18 @@ fn spans_take_memory_where_none_is_spare(rt: HostRuntime) -> Result<(), Fail> {
     Ok(())
 }
 
+#[test]
+fn spans_are_emptied(rt: HostRuntime) -> Result<(), Fail> {
+    let mut spans = Spans::new(rt.alloc(), 1).ok().ok_or("memory")?;
+    let span = Span::new(0, 1).ok_or("a span")?;
+    spans.push(span).ok().ok_or("memory")?;
+    spans.renew(2).ok().ok_or("memory")?;
+    assert_eq!(rt; spans.list().len(), 0);
+    spans.push(span).ok().ok_or("memory")?;
+    assert_eq!(rt; spans.list(), [span].as_slice());
+    Ok(())
+}
+
 fn page(number: u64) -> Result<Page, Fail> {
     Ok(Page::new(number).ok_or("a page")?)
 }

@@ -67,11 +67,14 @@ fn judge_call(core: &mut Core, c: u32, ioctl: &Ioctl, needed: LockSet)
     let mut spans = core.callers.take_spans(c);
     let judged = judge(&core.state.parts(core.setup), ioctl, &mut spans);
     match judged {
-        Judged::Refused(errno) => answer_now(core, c, *ioctl, Reply::Bad(errno)),
-        Judged::Same(answer) => answer_now(core, c, *ioctl, Reply::Good(answer)),
-        Judged::Short(effect, answer) => change_now(core, c, *ioctl, effect, answer),
+        Judged::Refused(errno) => answer_now(core, c, *ioctl, Reply::Bad(errno), spans),
+        Judged::Same(answer) => answer_now(core, c, *ioctl, Reply::Good(answer), spans),
+        Judged::Short(effect, answer) => change_now(core, c, *ioctl, effect, answer, spans),
         Judged::Bracket(_) => go_on(core, c, begin_call(*ioctl, needed, judged), Some(spans)),
-        Judged::Pages(_) => go_on(core, c, begin_call(*ioctl, needed, judged), None),
+        Judged::Pages(_) => {
+            core.callers.give_back(spans);
+            go_on(core, c, begin_call(*ioctl, needed, judged), None);
+        }
     }
 }
 
@@ -89,21 +92,22 @@ fn begin_call(ioctl: Ioctl, locks: LockSet, judged: Judged) -> Call
     }
 }
 
-/// A call is judged, and answered at once.
-fn answer_now(core: &mut Core, c: u32, ioctl: Ioctl, reply: Reply)
+/// A call is judged, and answered at once. Its spans are unused.
+fn answer_now(core: &mut Core, c: u32, ioctl: Ioctl, reply: Reply, unused: Spans)
     requires actor { c < length core.old.callers }
     requires room { 2 ≤ core.old.log.spare }
     requires counted { core.old.turns < 2 ^ 64 - 1 }
     requires bound { (caller_at core.old.callers c).ended + 1 < 2 ^ 64 }
     ensures { core.new ≡ answered_now core.old c ioctl reply }
 {
+    core.callers.give_back(unused);
     note(core, Actor::Caller(c), What::Judge { call: ioctl });
     core.callers.answer(c);
     note(core, Actor::Caller(c), What::Answer { reply });
 }
 
-/// A call is judged, makes its change and is answered at once.
-fn change_now(core: &mut Core, c: u32, ioctl: Ioctl, effect: Effect, answer: u64)
+/// A call is judged, makes its change and is answered at once. Its spans are unused.
+fn change_now(core: &mut Core, c: u32, ioctl: Ioctl, effect: Effect, answer: u64, unused: Spans)
     requires actor { c < length core.old.callers }
     requires room { 3 ≤ core.old.log.spare }
     requires counted { core.old.turns < 2 ^ 64 - 1 }
@@ -115,6 +119,7 @@ fn change_now(core: &mut Core, c: u32, ioctl: Ioctl, effect: Effect, answer: u64
     ensures applied { (s : Setup) (m : Memory) → CanApply s core.old.state m ioctl effect → Applied s m effect core.new.state }
     ensures generation { core.new.state.slots.generation ≤ core.old.state.slots.generation + 1 }
 {
+    core.callers.give_back(unused);
     note(core, Actor::Caller(c), What::Judge { call: ioctl });
     core.state.apply(&ioctl, &effect);
     note(core, Actor::Caller(c), What::Change { effect });

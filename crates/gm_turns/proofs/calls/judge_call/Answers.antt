@@ -85,4 +85,4 @@ returns-in-Pages c =
     let judges = may_judge k c.args.c i c.args.needed c.requires.ready c.requires.idle c.requires.command c.requires.locks c.requires.free in
     let tells = told k c.args.c c.parts.result i (judgement.Pages c.in-Pages.field-0) c.judge-judged.new.spans.list c.requires.ready (record { state = record { slots = c.parts.ensures.slots; files = c.parts.ensures.files; attrs = c.parts.ensures.attrs }; user = c.parts.ensures.user; setup = c.parts.ensures.setup }) c.in-Pages.ensures in
     let is : IsJudged c.judge-judged.result None (plan k.setup i (flat k.log.past)) = subst (λ (j : Judged). IsJudged j None (plan k.setup i (flat k.log.past))) (sym c.in-Pages.is) tells.0 in
-    rw (c.go_on-in-Pages.ensures, c.begin_call-in-Pages.ensures, c.take_spans-spans.ensures.callers) (go_turn k c.args.c i c.args.needed c.judge-judged.result None c.requires.ready c.requires.idle judges c.requires.locks is)
+    rw (c.go_on-in-Pages.ensures, c.begin_call-in-Pages.ensures, c.give_back.ensures, c.take_spans-spans.ensures.callers) (go_turn k c.args.c i c.args.needed c.judge-judged.result None c.requires.ready c.requires.idle judges c.requires.locks is)
