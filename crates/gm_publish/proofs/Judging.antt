@@ -1,7 +1,6 @@
 -- What a sighting says of a fault, and whether it is true.
-use Rattle.std.proofs.Common.{◌≡◌, ℕ, ◌≤◌, List, length, take, Option, Some, None, Result, Ok, Err, IfOk, arith, refl, ap, sym, ◌∙◌, subst}
+use Rattle.std.proofs.Common.{◌≡◌, ℕ, ◌≤◌, List, length, Option, Some, None, arith, refl, ap, sym, ◌∙◌, subst}
 use Rattle.gm_base.specs.Aim.{Aim}
-use Rattle.std.proofs.lemmas.List.{take_all}
 use Rattle.gm_base.specs.declared.values.Kind.{Kind}
 use Rattle.gm_flat.specs.Attribute.{attr_of}
 use Rattle.gm_flat.specs.FlatState.{AttrCall, Flat}
@@ -23,7 +22,7 @@ use Rattle.gm_publish.specs.Lookups.{view_by}
 use Rattle.gm_publish.specs.Sightings.{page_in, present, sight_of_page}
 use Rattle.gm_publish.proofs.Faults.{missed_at}
 use Rattle.gm_publish.proofs.Looking.{Agrees, at_end}
-use Rattle.gm_publish.proofs.Lookups.{agrees, latest_shown}
+use Rattle.gm_publish.proofs.Lookups.{agrees}
 
 -- what is asked for
 pub asked_is : (x : Fault) (a : Aim) (missed : ℕ) → asked_in x ≡ Some (a, missed) → x ≡ Faulting a missed None None None
@@ -65,26 +64,16 @@ look_same : (at page : ℕ) (s : Sight) (f : Flat) → s.slots ≡ f.slots → s
 look_same at page s f slots calls = λ i. look_in at page (slots i) (calls i)
 
 -- by the changes until then
-pub look_then : (at page : ℕ) (past : List Entry) (changes before : List Change) → IsKept past changes → view_by at changes ≡ shown_after before → look_in at page (shown_after before).slots (shown_after before).calls ≡ look_in at page (flat_at at past).slots (flat_at at past).attrs
+look_then : (at page : ℕ) (past : List Entry) (changes before : List Change) → IsKept past changes → view_by at changes ≡ shown_after before → look_in at page (shown_after before).slots (shown_after before).calls ≡ look_in at page (flat_at at past).slots (flat_at at past).attrs
 look_then at page past changes before k is =
     let a : Agrees at past (shown_after before) = subst (Agrees at past) is (agrees at past changes k) in
     look_same at page (shown_after before) (flat_at at past) a.slots a.calls
 
--- by the machine, where no change came later
-pub look_now : (at page : ℕ) (past : List Entry) (changes : List Change) → IsKept past changes → view_by at changes ≡ shown_after changes → look_in at page (flat past).slots (flat past).attrs ≡ look_in at page (flat_at at past).slots (flat_at at past).attrs
-look_now at page past changes k is =
-    let l = latest_shown past changes k in
-    sym (look_same at page (shown_after changes) (flat past) l.slots l.calls) ∙ look_then at page past changes changes k is
-
-pub looked_then : {E : Type 0} (at page : ℕ) (past : List Entry) (changes before : List Change) (r : Result Looked E) → IsKept past changes → view_by at changes ≡ shown_after before → IfOk r (λ l. l ≡ look_in at page (shown_after before).slots (shown_after before).calls) → IfOk r (λ l. l ≡ look_in at page (flat_at at past).slots (flat_at at past).attrs)
-looked_then at page past changes before (Ok l) k is h = h ∙ look_then at page past changes before k is
-looked_then at page past changes before (Err e) k is h = h
-
-pub looked_now : (at page : ℕ) (past : List Entry) (changes : List Change) (count : ℕ) (slot : Option SlotView) (attr : Kind) → IsKept past changes → view_by at changes ≡ shown_after (take count changes) → length changes ≤ count → slot ≡ slot_over (flat past).slots page → attr ≡ attr_of page (flat past).attrs → record { at = at; slot = slot; attr = attr } ≡ look_in at page (flat_at at past).slots (flat_at at past).attrs
-looked_now at page past changes count slot attr k is all s a =
+-- by a slot and an attribute that were told of that view
+pub looked_then : (at page : ℕ) (past : List Entry) (changes before : List Change) (slot : Option SlotView) (attr : Kind) → IsKept past changes → view_by at changes ≡ shown_after before → slot ≡ slot_over (shown_after before).slots page → attr ≡ attr_of page (shown_after before).calls → record { at = at; slot = slot; attr = attr } ≡ look_in at page (flat_at at past).slots (flat_at at past).attrs
+looked_then at page past changes before slot attr k is s a =
     let look : Option SlotView → Kind → Looked = λ x y. record { at = at; slot = x; attr = y } in
-    let whole : take count changes ≡ changes = take_all count changes all in
-    (λ i. look (s i) (a i)) ∙ look_now at page past changes k (is ∙ ap shown_after whole)
+    (λ i. look (s i) (a i)) ∙ look_then at page past changes before k is
 
 -- a sighting whose sequence is that of its position
 

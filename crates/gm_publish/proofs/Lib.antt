@@ -1,5 +1,6 @@
 pub mod Calming
 pub mod Counts
+pub mod Elsewhere
 pub mod Faults
 pub mod Finding
 pub mod Judging

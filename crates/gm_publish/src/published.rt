@@ -25,6 +25,7 @@ impl Model for Published {
 }
 
 mod depositing;
+mod elsewhere;
 mod judging;
 mod steps;
 mod turning;

@@ -13,8 +13,9 @@ ghost use Rattle.gm_turns.specs.Depositing.{IsTrueOf, IsTrueSight};
 ghost use Rattle.gm_vcpus.specs.Asks.{asked_in};
 ghost use Rattle.gm_views.specs.Shows.{shown_after};
 
-use gm_base::{Access, NoMemory, Page};
-use gm_flat::{Looked, Sampled, Sighting};
+use crate::published::elsewhere::{attribute_after, leave_attribute, leave_slot};
+use gm_base::{Access, Kind, NoMemory, Page};
+use gm_flat::{Looked, Sampled, Sighting, SlotView};
 use gm_machine::Machine;
 use gm_views::{Change, look_after};
 use std::alloc::Global;
@@ -96,7 +97,7 @@ fn is_same(one: &Looked, other: &Looked) -> bool
     one == other
 }
 
-// The look at a page that a position had. Where nothing was published after it, the machine tells.
+// The look at a page that a position had.
 fn look_at(
     alloc: Global,
     machine: &Machine,
@@ -108,14 +109,43 @@ fn look_at(
     ensures { IfOk result (λ l. l ≡ record { at = at; slot = slot_over (flat_at at machine.now.past).slots page; attr = attr_of page (flat_at at machine.now.past).attrs }) }
 {
     let count = count_until(kept, at);
-    if count < kept.len() {
-        return look_after(alloc, &kept[..count], at, page);
+    let slot = slot_then(alloc, machine, kept, count, page)?;
+    let attr = attribute_then(machine, kept, count, page);
+    Ok(Looked { at, slot, attr })
+}
+
+// The slot over a page after so many views. Where no later one touches what lies over the page, it is the machine's, and
+// else the slots are made anew.
+fn slot_then(
+    alloc: Global,
+    machine: &Machine,
+    kept: &[Change],
+    count: usize,
+    page: Page,
+) -> Result<Option<SlotView>, NoMemory>
+    requires kept { IsKept machine.now.past kept.now }
+    requires count { count ≤ length kept.now }
+    ensures { IfOk result (λ slot. slot ≡ slot_over (shown_after (take count kept.now)).slots page) }
+{
+    if leave_slot(&kept[count..], page) {
+        return Ok(machine.slot(page));
     }
-    Ok(Looked {
-        at,
-        slot: machine.slot(page),
-        attr: machine.attribute(page),
-    })
+    let look = look_after(alloc, &kept[..count], 0, page)?;
+    Ok(look.slot)
+}
+
+// The attribute of a page after so many views. Where no later one sets it, it is the machine's, and else that of the last
+// call before.
+fn attribute_then(machine: &Machine, kept: &[Change], count: usize, page: Page) -> Kind
+    requires kept { IsKept machine.now.past kept.now }
+    requires count { count ≤ length kept.now }
+    ensures { result ≡ attr_of page (shown_after (take count kept.now)).calls }
+{
+    if leave_attribute(&kept[count..], page) {
+        machine.attribute(page)
+    } else {
+        attribute_after(&kept[..count], page)
+    }
 }
 
 // The sequence of the last view whose position isn't after this one.
