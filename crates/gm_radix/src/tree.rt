@@ -327,16 +327,11 @@ fn link<V: Copy>(
     ensures capacity { nodes.new.capacity ≡ nodes.old.capacity }
 {
     if left != parts.left || right != parts.right || count != parts.count {
-        set(
-            nodes,
-            key,
-            Node::Fork(Parts {
-                left,
-                right,
-                count,
-                ..parts
-            }),
-        );
+        if let Node::Fork(parts) = &mut nodes[key] {
+            parts.left = left;
+            parts.right = right;
+            parts.count = count;
+        }
     }
 }
 
@@ -348,14 +343,9 @@ fn count_more<V: Copy>(nodes: &mut Slab<Node<V>>, key: usize, parts: Parts, adde
     ensures len { slab_len nodes.new ≡ slab_len nodes.old }
     ensures capacity { nodes.new.capacity ≡ nodes.old.capacity }
 {
-    link(
-        nodes,
-        key,
-        parts,
-        parts.left,
-        parts.right,
-        parts.count + added,
-    );
+    if let Node::Fork(parts) = &mut nodes[key] {
+        parts.count += added;
+    }
 }
 
 // The block over a node's indexes and one beside them. They are all from `from` on and below `to`.
