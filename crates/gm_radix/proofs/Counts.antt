@@ -1,10 +1,16 @@
 -- How many entries of a list have their indexes in a range.
-use Rattle.std.proofs.Common.{◌≡◌, ℕ, ◌+◌, ◌-◌, ◌<◌, ◌≤◌, ◌⊎◌, inl, inr, List, [], ◌∷◌, ◌++◌, length, refl, arith, Bool, true, false}
-use Rattle.std.specs.Prelude.{Some, IsSome, nat_eq, if◌then◌else◌}
+use Rattle.std.proofs.Common.{◌≡◌, ℕ, ◌+◌, ◌-◌, ◌<◌, ◌≤◌, ◌⊎◌, inl, inr, List, [], ◌∷◌, ◌++◌, length, refl, ◌∙◌, arith, Bool, true, false}
+use Rattle.std.specs.Prelude.{Some, IsSome, nat_eq, nat_le, nat_lt, ◌&&◌, if◌then◌else◌}
 use Rattle.std.proofs.lemmas.Bool.Decides.{nat_tests}
 use Rattle.std.proofs.lemmas.Bool.{eq-eqb}
 use Rattle.gm_radix.specs.Entries.{lookup, is_within, count_within, gap_from, Rises}
 use Rattle.gm_radix.proofs.Lists.{not_within, within_none, length-Rises}
+
+rest_step : (x lo hi c d n : ℕ) → x < hi → c + d ≡ n → (if nat_le lo x && nat_lt x hi then c + 1 else c) + (if nat_le 0 x && nat_lt x lo then d + 1 else d) ≡ n + 1
+rest_step x lo hi c d n p q = grind (arith, nat_tests)
+
+from_step : (x lo hi c d : ℕ) → lo ≤ x → c ≡ d → (if nat_le lo x && nat_lt x hi then c + 1 else c) ≡ (if nat_le 0 x && nat_lt x hi then d + 1 else d)
+from_step x lo hi c d p q = grind (arith, nat_tests)
 
 module _ {V : Type 0} where
   pub count_within-append : (lo hi : ℕ) (l r : List (ℕ × V)) → count_within lo hi (l ++ r) ≡ count_within lo hi l + count_within lo hi r
@@ -43,6 +49,35 @@ module _ {V : Type 0} where
   count_within-inside lo hi a b (e ∷ es) h p q =
       let rest = count_within-inside lo hi (e.0 + 1) b es h.1 (omega arith) q in
       rw (inside lo hi e (omega arith) (omega arith)) (omega (arith, rest))
+
+  -- where all are below the range's end, those that aren't in it are before it
+  pub count_within-rest : (lo hi a b : ℕ) (es : List (ℕ × V)) → Rises a b es → b ≤ hi → count_within lo hi es + count_within 0 lo es ≡ length es
+  count_within-rest lo hi a b [] h p = refl
+  count_within-rest lo hi a b (e ∷ es) h p =
+      rest_step e.0 lo hi (count_within lo hi es) (count_within 0 lo es) (length es) (omega arith) (count_within-rest lo hi (e.0 + 1) b es h.1 p) ∙ omega arith
+
+  -- where none is before the range, all before its end are in it
+  pub count_within-from : (lo hi a b : ℕ) (es : List (ℕ × V)) → Rises a b es → lo ≤ a → count_within lo hi es ≡ count_within 0 hi es
+  count_within-from lo hi a b [] h p = refl
+  count_within-from lo hi a b (e ∷ es) h p =
+      from_step e.0 lo hi (count_within lo hi es) (count_within 0 hi es) (omega arith) (count_within-from lo hi (e.0 + 1) b es h.1 (omega arith))
+
+  -- of two lists of which the range meets the first alone
+  pub count_within-left : (lo hi pivot b : ℕ) (l r : List (ℕ × V)) → Rises pivot b r → hi ≤ pivot → count_within lo hi (l ++ r) ≡ count_within lo hi l
+  count_within-left lo hi pivot b l r h p = count_within-append lo hi l r ∙ omega (arith, count_within-apart lo hi pivot b r h (inr p))
+
+  -- or the second alone
+  pub count_within-right : (lo hi a pivot : ℕ) (l r : List (ℕ × V)) → Rises a pivot l → pivot ≤ lo → count_within lo hi (l ++ r) ≡ count_within lo hi r
+  count_within-right lo hi a pivot l r h p = count_within-append lo hi l r ∙ omega (arith, count_within-apart lo hi a pivot l h (inl p))
+
+  -- or the first whole
+  pub count_within-past : (index a pivot : ℕ) (l r : List (ℕ × V)) → Rises a pivot l → pivot ≤ index → count_within 0 index (l ++ r) ≡ length l + count_within 0 index r
+  count_within-past index a pivot l r h p = count_within-append 0 index l r ∙ omega (arith, count_within-inside 0 index a pivot l h (omega arith) p)
+
+  -- or both
+  pub count_within-split : (lo hi a pivot b : ℕ) (l r : List (ℕ × V)) → Rises a pivot l → Rises pivot b r → lo ≤ pivot → pivot ≤ hi → count_within lo hi (l ++ r) + count_within 0 lo l ≡ length l + count_within 0 hi r
+  count_within-split lo hi a pivot b l r h i p q =
+      omega (arith, count_within-append lo hi l r, count_within-rest lo hi a pivot l h q, count_within-from lo hi pivot b r i p)
 
   -- as many entries as indexes leave no gap
   pub gap_from-full : (index lo hi : ℕ) (es : List (ℕ × V)) → Rises lo hi es → length es ≡ hi - lo → lo ≤ index → index ≤ hi → gap_from index es ≡ hi

@@ -155,7 +155,7 @@ impl<V: Copy> Radix<V> {
             return 0;
         }
         match self.root {
-            Some(key) => tree::count_in(&self.nodes, key, 0, PAGE_LIMIT, lo, hi),
+            Some(key) => tree::count_in(&self.nodes, key, lo, hi),
             None => 0,
         }
     }

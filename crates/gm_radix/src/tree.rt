@@ -60,33 +60,76 @@ pub(crate) fn first_gap<V: Copy>(nodes: &Slab<Node<V>>, key: usize, index: u64) 
     }
 }
 
-/// How many entries have an index from `lo` on and below `hi`. The tree has its indexes from `from` on and below `to`.
-pub(crate) fn count_in<V: Copy>(
-    nodes: &Slab<Node<V>>,
-    key: usize,
-    from: u64,
-    to: u64,
-    lo: u64,
-    hi: u64,
-) -> u64
-    requires tree { IsPart nodes.now.slots key from to }
-    requires limit { to ≤ PAGE_LIMIT }
+/// How many entries have an index from `lo` on and below `hi`. One way leads down to the first node of which both parts
+/// have some of these indexes, and from there one way down each part.
+pub(crate) fn count_in<V: Copy>(nodes: &Slab<Node<V>>, key: usize, lo: u64, hi: u64) -> u64
+    requires { IsTree nodes.now.slots key }
     ensures { result ≡ count_within lo hi (under nodes.now.slots key) }
 {
-    if to <= lo || hi <= from {
-        return 0;
-    }
-    match nodes[key] {
-        Node::Leaf(at, _) => if lo <= at && at < hi { 1 } else { 0 },
-        Node::Fork(parts) => {
-            let block = parts.block;
-            if lo <= block.first && block.end <= hi {
-                return parts.count;
+    let mut key = key;
+    loop {
+        match &nodes[key] {
+            Node::Leaf(at, _) => return if lo <= *at && *at < hi { 1 } else { 0 },
+            Node::Fork(parts) => {
+                let block = parts.block;
+                if hi <= block.first || block.end <= lo {
+                    return 0;
+                }
+                if lo <= block.first && block.end <= hi {
+                    return parts.count;
+                }
+                if hi <= block.pivot {
+                    key = parts.left;
+                } else if block.pivot <= lo {
+                    key = parts.right;
+                } else {
+                    let left = count_of(nodes, parts.left) - count_below(nodes, parts.left, lo);
+                    let right = count_below(nodes, parts.right, hi);
+                    return left + right;
+                }
             }
-            let left = count_in(nodes, parts.left, block.first, block.pivot, lo, hi);
-            let right = count_in(nodes, parts.right, block.pivot, block.end, lo, hi);
-            left + right
         }
+    }
+}
+
+// How many entries have an index below this one.
+fn count_below<V: Copy>(nodes: &Slab<Node<V>>, key: usize, index: u64) -> u64
+    requires { IsTree nodes.now.slots key }
+    ensures { result ≡ count_within 0 index (under nodes.now.slots key) }
+{
+    let mut key = key;
+    let mut passed = 0;
+    loop {
+        match &nodes[key] {
+            Node::Leaf(at, _) => return if *at < index { passed + 1 } else { passed },
+            Node::Fork(parts) => {
+                let block = parts.block;
+                if index <= block.first {
+                    return passed;
+                }
+                if block.end <= index {
+                    return passed + parts.count;
+                }
+                if index < block.pivot {
+                    key = parts.left;
+                } else {
+                    // The second half's node is visited next in any case, so the first half's isn't read for its count.
+                    passed += parts.count - count_of(nodes, parts.right);
+                    key = parts.right;
+                }
+            }
+        }
+    }
+}
+
+// How many entries there are.
+fn count_of<V: Copy>(nodes: &Slab<Node<V>>, key: usize) -> u64
+    requires { IsTree nodes.now.slots key }
+    ensures { result ≡ length (under nodes.now.slots key) }
+{
+    match &nodes[key] {
+        Node::Leaf(_, _) => 1,
+        Node::Fork(parts) => parts.count,
     }
 }
 
@@ -233,16 +276,11 @@ fn link<V: Copy>(
     ensures capacity { nodes.new.capacity ≡ nodes.old.capacity }
 {
     if left != parts.left || right != parts.right || count != parts.count {
-        set(
-            nodes,
-            key,
-            Node::Fork(Parts {
-                left,
-                right,
-                count,
-                ..parts
-            }),
-        );
+        if let Node::Fork(parts) = &mut nodes[key] {
+            parts.left = left;
+            parts.right = right;
+            parts.count = count;
+        }
     }
 }
 

@@ -1,38 +1,38 @@
 -- The latest fills, found and kept from the back of a list whose latest item stands last.
-use Rattle.std.proofs.Common.{[], Bool, subst, ◌≡◌, ℕ, ◌+◌, ◌-◌, ◌<◌, List, ◌∷◌, ◌++◌, length, take, drop, get_or, reverse, refl, ap, sym, ◌∙◌, arith, add-one, length-drop}
+use Rattle.std.proofs.Common.{[], Bool, ◌≡◌, ℕ, ◌+◌, ◌-◌, ◌≤◌, List, ◌∷◌, ◌++◌, length, take, drop, get_or, reverse, refl, ap, sym, ◌∙◌, arith, add-one, length-drop}
 use Rattle.std.specs.Prelude.{Some, None, if◌then◌else◌, true, false}
 use Rattle.std.specs.declared.option.Option.{Option}
 use Rattle.std.proofs.Math.Seq.{drop-cons}
-use Rattle.std.proofs.lemmas.List.{reverse-append, take_at, length-reverse, take-append-drop, get_or-reverse}
+use Rattle.std.proofs.lemmas.List.{reverse-append, take_at, length-reverse, take-append-drop, drop_all}
 use Rattle.std.proofs.lemmas.Grind.{common_steps}
 use Rattle.gm_base.specs.Aim.{Aim}
 use Rattle.gm_base.specs.Leaf.{serves}
 use Rattle.gm_tlb.specs.declared.tlb.Fill.{Fill}
 use Rattle.gm_tlb.specs.Fills.{latest}
 
--- one more fill is looked at
-latest-drop : (fills : List Fill) (i : ℕ) (a : Aim) (d : Fill) → i < length fills → latest (drop i fills) a ≡ (if serves (get_or fills i d).leaf a then Some (get_or fills i d) else latest (drop (i + 1) fills) a)
-latest-drop fills i a d h =
-    let p : drop i fills ≡ get_or fills i d ∷ drop (i + 1) fills = rw add-one (drop-cons fills i d h) in
-    ap (λ (xs : List Fill). latest xs a) p
+-- the last item
+abbrev pub last_at : List Fill → Fill → Fill
+last_at items d = get_or items (length items - 1) d
 
--- the item that is counted from the back of the items
-abbrev pub back_at : List Fill → ℕ → Fill → Fill
-back_at items i d = get_or items (length items - 1 - i) d
+-- the items but the last
+abbrev pub but_last : List Fill → List Fill
+but_last items = take (length items - 1) items
 
--- the same for a list that is read from its end
-latest-back : (items : List Fill) (i : ℕ) (a : Aim) (d : Fill) → i < length items → latest (drop i (reverse items)) a ≡ (if serves (back_at items i d).leaf a then Some (back_at items i d) else latest (drop (i + 1) (reverse items)) a)
-latest-back items i a d h =
-    let n : i < length (reverse items) = rw length-reverse h in
-    subst (λ (fill : Fill). latest (drop i (reverse items)) a ≡ (if serves fill.leaf a then Some fill else latest (drop (i + 1) (reverse items)) a)) (get_or-reverse items i d h) (latest-drop (reverse items) i a d n)
+-- the last item is the first from the end
+last_first : (items : List Fill) (d : Fill) → 1 ≤ length items → reverse items ≡ last_at items d ∷ reverse (but_last items)
+last_first items d h =
+    let n : ℕ = length items - 1 in
+    let rest : drop n items ≡ get_or items n d ∷ drop (n + 1) items = rw add-one (drop-cons items n d (omega arith)) in
+    let none : drop (n + 1) items ≡ [] = drop_all (n + 1) items (omega arith) in
+    let whole : items ≡ take n items ++ get_or items n d ∷ [] = sym (take-append-drop n items) ∙ ap (λ (ys : List Fill). take n items ++ ys) (rest ∙ ap (λ (ys : List Fill). get_or items n d ∷ ys) none) in
+    ap (λ (ys : List Fill). reverse ys) whole ∙ reverse-append (take n items) (get_or items n d ∷ [])
 
--- the fill at the place serves, and none of those after it
-pub back_found : (items : List Fill) (i : ℕ) (a : Aim) (d : Fill) → i < length items → latest (drop i (reverse items)) a ≡ latest (reverse items) a → serves (back_at items i d).leaf a ≡ true → Some (back_at items i d) ≡ latest (reverse items) a
-back_found items i a d h v s = sym (rw s at (latest-back items i a d h)) ∙ v
+latest-last : (items : List Fill) (a : Aim) (d : Fill) → 1 ≤ length items → latest (reverse items) a ≡ (if serves (last_at items d).leaf a then Some (last_at items d) else latest (reverse (but_last items)) a)
+latest-last items a d h = ap (λ (ys : List Fill). latest ys a) (last_first items d h)
 
--- the fill at the place doesn't serve
-pub back_passed : (items : List Fill) (i : ℕ) (a : Aim) (d : Fill) → i < length items → latest (drop i (reverse items)) a ≡ latest (reverse items) a → serves (back_at items i d).leaf a ≡ false → latest (drop (i + 1) (reverse items)) a ≡ latest (reverse items) a
-back_passed items i a d h v s = sym (rw s at (latest-back items i a d h)) ∙ v
+-- the last fill serves
+pub last_found : (items : List Fill) (a : Aim) (d : Fill) (found : Option Fill) → 1 ≤ length items → latest (reverse items) a ≡ found → serves (last_at items d).leaf a ≡ true → Some (last_at items d) ≡ found
+last_found items a d found h v s = sym (rw s at (latest-last items a d h)) ∙ v
 
 -- of two runs of fills the first is looked at first
 abbrev pub or_in : Option Fill → List Fill → Aim → Option Fill

@@ -73,11 +73,13 @@ impl Tlb {
 fn latest_of(fills: &[Fill], access: &Access) -> Option<Fill>
     ensures { result ≡ latest (reverse fills.now) access.now }
 {
-    for index in 0..fills.len() {
-        let fill = &fills[fills.len() - 1 - index];
-        if fill.leaf.serves(*access) {
+    let wanted = *access;
+    let mut rest = fills;
+    while let [older @ .., fill] = rest {
+        if fill.leaf.serves(wanted) {
             return Some(*fill);
         }
+        rest = older;
     }
     None
 }
