@@ -27,6 +27,18 @@ c0 attrs 0 4096 8 0
 v0 read shared 0
 ";
 
+const ELSEWHERE: &[u8] = b"machine frames=8 user=16 vcpus=1 callers=1 huge=off
+c0 region 0 0 0 16384 0 0 0
+c0 attrs 8192 4096 8 0
+v0 read shared 0
+";
+
+const DELETION: &[u8] = b"machine frames=8 user=16 vcpus=1 callers=1 huge=off
+c0 region 0 0 0 16384 0 0 0
+c0 region 0 0 0 0 0 0 0
+v0 read shared 0
+";
+
 const VCPU: Actor = Actor::Vcpu(0);
 
 const CALLER: Actor = Actor::Caller(0);
@@ -52,14 +64,23 @@ enum Trial {
     Spied,
     /// Likewise after it has made its change.
     Late,
+    /// Likewise, where the conversion is of another page.
+    Elsewhere,
+    /// Likewise, where the slot was deleted in place of the conversion.
+    Deleted,
     /// What is deposited isn't true.
     Untrue,
+    /// What is deposited is the attribute of now with an earlier position.
+    Converted,
 }
 
-// What a trial leaves: the position of its sample, and how many entries and turns there are.
+// What a trial leaves: the place of its sample, the position that was seen with the attribute there, and how many entries
+// and turns there are.
 #[derive(Clone, Copy)]
 struct Left {
     sample: usize,
+    at: u64,
+    attr: Kind,
     entries: usize,
     turns: u64,
 }
@@ -68,11 +89,18 @@ fn left_by(trial: Trial) -> Left {
     let (sample, entries, turns) = match trial {
         Trial::OneRead => (5, 11, 8),
         Trial::Spied => (6, 8, 5),
-        Trial::Late => (9, 11, 8),
+        Trial::Late | Trial::Elsewhere | Trial::Converted => (9, 11, 8),
+        Trial::Deleted => (10, 12, 8),
         Trial::Untrue => (5, 7, 4),
+    };
+    let (at, attr) = match trial {
+        Trial::Converted => (9, Kind::Private),
+        _ => (5, Kind::Shared),
     };
     Left {
         sample,
+        at,
+        attr,
         entries,
         turns,
     }
@@ -81,7 +109,9 @@ fn left_by(trial: Trial) -> Left {
 fn script_of(trial: Trial) -> &'static [u8] {
     match trial {
         Trial::OneRead => ONE_READ,
-        Trial::Spied | Trial::Late | Trial::Untrue => CONVERSION,
+        Trial::Elsewhere => ELSEWHERE,
+        Trial::Deleted => DELETION,
+        Trial::Spied | Trial::Late | Trial::Untrue | Trial::Converted => CONVERSION,
     }
 }
 
@@ -159,12 +189,16 @@ fn try_on<R: Abort + Wait>(rt: &R, published: &mut Published, spy: &mut Spy, tri
             turns(rt, published, CALLER, 1);
             deposit(rt, published, sight);
         }
-        Trial::Late => {
+        Trial::Late | Trial::Elsewhere | Trial::Deleted => {
             let sight = spied(rt, published, spy);
             turns(rt, published, CALLER, 4);
             deposit(rt, published, sight);
         }
         Trial::Untrue => deposit(rt, published, sighting(4, 5, Kind::Private)),
+        Trial::Converted => {
+            turns(rt, published, CALLER, 4);
+            deposit(rt, published, sighting(5, 5, Kind::Private));
+        }
     }
 }
 
@@ -211,17 +245,17 @@ fn look_in(machine: &Machine, position: usize) -> Option<Seen> {
     }
 }
 
-// Each trial keeps a sample and a look of position 5, where the slot lies over a page that is shared.
+// Each trial leaves a sample and a look of one position, where the slot lies over the page.
 fn check(rt: &impl Abort, machine: &Machine, left: Left) {
     let seen = Seen {
-        at: 5,
+        at: left.at,
         slot: Some(0),
-        attr: Kind::Shared,
+        attr: left.attr,
         file: None,
     };
     assert_eq!(rt; machine.history().len(), left.entries);
     assert_eq!(rt; machine.turns(), left.turns);
-    assert_eq!(rt; sample_in(machine, left.sample), Some(5));
+    assert_eq!(rt; sample_in(machine, left.sample), Some(left.at));
     assert_eq!(rt; look_in(machine, left.sample.saturating_add(1)), Some(seen));
 }
 
@@ -252,6 +286,21 @@ fn a_spy_sees_before_a_conversion(rt: HostRuntime) {
 #[test]
 fn a_true_sighting_is_kept_after_a_change(rt: HostRuntime) {
     tried(&rt, rt.alloc(), Trial::Late);
+}
+
+#[test]
+fn a_true_sighting_is_kept_after_a_change_elsewhere(rt: HostRuntime) {
+    tried(&rt, rt.alloc(), Trial::Elsewhere);
+}
+
+#[test]
+fn a_true_sighting_is_kept_after_its_slot_is_gone(rt: HostRuntime) {
+    tried(&rt, rt.alloc(), Trial::Deleted);
+}
+
+#[test]
+fn an_attribute_of_now_is_untrue_before_its_change(rt: HostRuntime) {
+    tried(&rt, rt.alloc(), Trial::Converted);
 }
 
 #[test]
