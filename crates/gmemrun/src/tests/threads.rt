@@ -14,7 +14,10 @@ fn one_vcpu_alone(rt: HostRuntime) -> Result<(), Fail> {
     let alloc = rt.alloc();
     let mut source = SureSource::new(A_PRIVATE_READ);
     let mut sink = SureSink::new(alloc, 4096).ok().ok_or("memory")?;
-    assert_eq!(rt; run_threads(&rt, alloc, &mut source, &mut sink, &OpenGate), Status::Ok);
+    assert_eq!(rt;
+        run_threads(&rt, alloc, &mut source, &mut sink, &OpenGate),
+        Status::Ok
+    );
     assert_eq!(rt; sink.held(), ITS_HISTORY);
     Ok(())
 }
