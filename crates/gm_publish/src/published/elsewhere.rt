@@ -1,21 +1,24 @@
 //! What changes leave of a page's look. No function here takes memory.
 
-ghost use Rattle.std.specs.Prelude.{◌≡◌, IfSome, IsTrue, None, fold};
+ghost use Rattle.std.specs.Prelude.{◌≡◌, ℕ, IfSome, IsTrue, List, None, Some, fold};
 ghost use Rattle.gm_flat.specs.Attribute.{attr_of};
 ghost use Rattle.gm_flat.specs.Slots.{slot_over};
+ghost use Rattle.gm_slots.specs.Good.{Good};
+ghost use Rattle.gm_views.specs.Follows.{sight_slots, slots_after};
 ghost use Rattle.gm_views.specs.Shows.{changed, shown_after};
 ghost use Rattle.gm_views.specs.declared.sights.Sight.{Sight};
 
 use gm_base::{Kind, Page};
-use gm_flat::Effect;
+use gm_flat::{Effect, SlotView};
 use gm_views::Change;
 
-/// Whether none of these changes, one after another, touches what lies over the page.
-pub(super) fn leave_slot(changes: &[Change], page: Page) -> bool
-    ensures { IsTrue result → (s : Sight) → slot_over (fold changed s changes.now).slots page ≡ slot_over s.slots page }
+/// Whether what lies over any page after these changes, if it is this, lay there before them too, where the slots before
+/// them had no two of one id or one page.
+pub(super) fn leave_slot(changes: &[Change], slot: Option<SlotView>) -> bool
+    ensures { IsTrue result → (page : ℕ) (s : Sight) → Good s.slots → slot_over (fold changed s changes.now).slots page ≡ slot → slot_over s.slots page ≡ slot }
 {
     for change in changes {
-        if !leaves_slot(change, page) {
+        if !leaves_slot(change, slot) {
             return false;
         }
     }
@@ -49,21 +52,40 @@ pub(super) fn attribute_after(changes: &[Change], page: Page) -> Kind
     Kind::Shared
 }
 
-// Whether the change touches nothing that lies over the page. Of a slot that was there before, a change tells the id or
-// the file, and not the pages: that counts as a touch.
-fn leaves_slot(change: &Change, page: Page) -> bool
-    ensures { IsTrue result → (s : Sight) → slot_over (changed s change.now).slots page ≡ slot_over s.slots page }
+// Whether what lies over any page after the change, if it is this, lay there before it too.
+fn leaves_slot(change: &Change, slot: Option<SlotView>) -> bool
+    ensures { IsTrue result → (page : ℕ) (slots : List SlotView) → Good slots → slot_over (sight_slots change.now.effect slots) page ≡ slot → slot_over slots page ≡ slot }
 {
-    match change.effect {
-        Some(Effect::Slot { base, pages, .. }) => {
-            let number = page.number();
-            number < base || number - base >= pages
-        }
-        Some(
-            Effect::Mark { .. } | Effect::NoSlot { .. } | Effect::Move { .. } | Effect::Shut { .. },
-        ) => false,
+    let Some(effect) = change.effect else {
+        return true;
+    };
+    match slot {
+        Some(slot) => leaves_it(&effect, slot),
+        None => leaves_none(&effect),
+    }
+}
+
+// Whether a slot that lies over any page after the effect lay there before it, just as it is: the effect doesn't make,
+// mark or move it, nor may it have shut its file.
+#[tactic(auto, using(crate::proofs::Before::before_add, crate::proofs::Before::before_mark, crate::proofs::Before::before_move, crate::proofs::Before::before_drop, crate::proofs::Before::before_shut))]
+fn leaves_it(effect: &Effect, slot: SlotView) -> bool
+    ensures { IsTrue result → (page : ℕ) (slots : List SlotView) → Good slots → slot_over (slots_after effect.now slots) page ≡ Some slot → slot_over slots page ≡ Some slot }
+{
+    match *effect {
+        Effect::Slot { slot: id, .. } => slot.id != id,
+        Effect::Mark { slot: id } => slot.id != id,
+        Effect::Move { slot: id, .. } => slot.id != id,
+        Effect::Shut { .. } => slot.file.is_some(),
         _ => true,
     }
+}
+
+// Whether a page with no slot over it after the effect had none before it: no slot goes or moves by it.
+#[tactic(auto, using(crate::proofs::Before::free_add, crate::proofs::Before::free_mark, crate::proofs::Before::free_shut))]
+fn leaves_none(effect: &Effect) -> bool
+    ensures { IsTrue result → (page : ℕ) (slots : List SlotView) → slot_over (slots_after effect.now slots) page ≡ None → slot_over slots page ≡ None }
+{
+    !matches!(effect, Effect::NoSlot { .. } | Effect::Move { .. })
 }
 
 // The kind that the change sets at the page, if it is a call that does.

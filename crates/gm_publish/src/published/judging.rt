@@ -114,8 +114,8 @@ fn look_at(
     Ok(Looked { at, slot, attr })
 }
 
-// The slot over a page after so many views. Where no later one touches what lies over the page, it is the machine's, and
-// else the slots are made anew.
+// The slot over a page after so many views. Where what lies over the page now lay there before each later one, it is the
+// machine's, and else the slots are made anew.
 fn slot_then(
     alloc: Global,
     machine: &Machine,
@@ -127,8 +127,9 @@ fn slot_then(
     requires count { count ≤ length kept.now }
     ensures { IfOk result (λ slot. slot ≡ slot_over (shown_after (take count kept.now)).slots page) }
 {
-    if leave_slot(&kept[count..], page) {
-        return Ok(machine.slot(page));
+    let slot = machine.slot(page);
+    if leave_slot(&kept[count..], slot) {
+        return Ok(slot);
     }
     let look = look_after(alloc, &kept[..count], 0, page)?;
     Ok(look.slot)
