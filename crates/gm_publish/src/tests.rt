@@ -74,8 +74,8 @@ enum Trial {
     Converted,
 }
 
-// What a trial leaves: the place of its sample, the position that was seen with the attribute there, and how many entries
-// and turns there are.
+// What a trial leaves: the place of its sample, the position that was seen with the attribute there, and how many
+// entries and turns there are.
 #[derive(Clone, Copy)]
 struct Left {
     sample: usize,

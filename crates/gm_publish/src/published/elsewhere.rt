@@ -12,8 +12,8 @@ use gm_base::{Kind, Page};
 use gm_flat::{Effect, SlotView};
 use gm_views::Change;
 
-/// Whether what lies over any page after these changes, if it is this, lay there before them too, where the slots before
-/// them had no two of one id or one page.
+/// Whether what lies over any page after these changes, if it is this, lay there before them too, where the slots
+/// before them had no two of one id or one page.
 pub(super) fn leave_slot(changes: &[Change], slot: Option<SlotView>) -> bool
     ensures { IsTrue result → (page : ℕ) (s : Sight) → Good s.slots → slot_over (fold changed s changes.now).slots page ≡ slot → slot_over s.slots page ≡ slot }
 {

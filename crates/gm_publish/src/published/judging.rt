@@ -114,8 +114,8 @@ fn look_at(
     Ok(Looked { at, slot, attr })
 }
 
-// The slot over a page after so many views. Where what lies over the page now lay there before each later one, it is the
-// machine's, and else the slots are made anew.
+// The slot over a page after so many views. Where what lies over the page now lay there before each later one, it is
+// the machine's, and else the slots are made anew.
 fn slot_then(
     alloc: Global,
     machine: &Machine,
@@ -135,8 +135,8 @@ fn slot_then(
     Ok(look.slot)
 }
 
-// The attribute of a page after so many views. Where no later one sets it, it is the machine's, and else that of the last
-// call before.
+// The attribute of a page after so many views. Where no later one sets it, it is the machine's, and else that of the
+// last call before.
 fn attribute_then(machine: &Machine, kept: &[Change], count: usize, page: Page) -> Kind
     requires kept { IsKept machine.now.past kept.now }
     requires count { count ≤ length kept.now }
