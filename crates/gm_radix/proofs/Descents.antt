@@ -1,17 +1,17 @@
 -- The way down to where an entry is added.
-use Rattle.std.proofs.Common.{◌≡◌, ℕ, suc, ◌+◌, ◌-◌, ◌<◌, ◌≤◌, ◌⊎◌, inl, inr, List, [], ◌∷◌, ◌++◌, length, refl, ap, sym, ◌∙◌, subst, arith, Bool, true, false, length-append}
+use Rattle.std.proofs.Common.{◌≡◌, ℕ, suc, ◌+◌, ◌-◌, ◌<◌, ◌≤◌, ◌⊎◌, inl, inr, List, [], ◌∷◌, length, refl, ap, sym, ◌∙◌, subst, arith, Bool, true, false, length-append}
 use Rattle.std.specs.Prelude.{None, Some, nat_eq, nat_lt, if◌then◌else◌}
 use Rattle.std.proofs.lemmas.Bool.{cases_lt, le-ltb}
 use Rattle.std.specs.declared.option.Option.{Option}
 use Rattle.slab.specs.Slab.{Slab, Updates}
 use Rattle.gm_base.specs.declared.numbers.TheConstants.{PAGE_LIMIT}
 use Rattle.gm_radix.specs.declared.node.Node.{Node}
-use Rattle.gm_radix.specs.declared.node.Node.TheVariants.{Leaf, Fork}
+use Rattle.gm_radix.specs.declared.node.Node.TheVariants.{Fork}
 use Rattle.gm_radix.specs.declared.node.Parts.{Parts}
 use Rattle.gm_radix.specs.Entries.{lookup, put, Rises}
 use Rattle.gm_radix.specs.Nodes.{node_at, under, Holds, fork, IsPart, Keeps}
 use Rattle.gm_radix.proofs.Frames.{Holds-apart, Holds-updates, Keeps-then, Keeps-updates, Keeps-wider}
-use Rattle.gm_radix.proofs.Held.{AtFork, Holds-order, Holds-wider, at_fork, under-Holds}
+use Rattle.gm_radix.proofs.Held.{Holds-order, at_fork, under-Holds}
 use Rattle.gm_radix.proofs.Lists.{length-put, length-Rises, lookup-outside, put-left, put-right}
 
 module _ {V : Type 0} where
