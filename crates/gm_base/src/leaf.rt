@@ -4,6 +4,7 @@ ghost use Rattle.std.specs.Prelude.{◌≡◌};
 ghost use Rattle.gm_base.specs.Leaf.{covers, meets_leaf, serves};
 
 use crate::access::Access;
+use crate::numbers::BLOCK_PAGES;
 use crate::span::Span;
 use crate::values::{Kind, Level, Op, Place};
 
@@ -24,7 +25,10 @@ impl Leaf {
     pub fn covers(&self, page: u64) -> bool
         ensures { result ≡ covers self.now page }
     {
-        self.first <= page && page - self.first < self.level.pages()
+        match self.level {
+            Level::Small => self.first == page,
+            Level::Block => self.first <= page && page - self.first < BLOCK_PAGES,
+        }
     }
 
     /// Whether a page of the span is one of the leaf's.

@@ -1,9 +1,9 @@
 -- How many entries of a list have their indexes in a range.
-use Rattle.std.proofs.Common.{◌≡◌, ℕ, ◌+◌, ◌-◌, ◌<◌, ◌≤◌, ◌⊎◌, inl, inr, List, [], ◌∷◌, ◌++◌, length, refl, ◌∙◌, arith, Bool, true, false}
+use Rattle.std.proofs.Common.{◌≡◌, ℕ, ◌+◌, ◌-◌, ◌<◌, ◌≤◌, ◌⊎◌, inl, inr, List, [], ◌∷◌, ◌++◌, length, refl, ap, ◌∙◌, arith, Bool, true, false}
 use Rattle.std.specs.Prelude.{Some, IsSome, nat_eq, nat_le, nat_lt, ◌&&◌, if◌then◌else◌}
 use Rattle.std.proofs.lemmas.Bool.Decides.{nat_tests}
 use Rattle.std.proofs.lemmas.Bool.{eq-eqb}
-use Rattle.gm_radix.specs.Entries.{lookup, is_within, count_within, gap_from, Rises}
+use Rattle.gm_radix.specs.Entries.{lookup, is_within, without, count_within, gap_from, Rises}
 use Rattle.gm_radix.proofs.Lists.{not_within, within_none, length-Rises}
 
 rest_step : (x lo hi c d n : ℕ) → x < hi → c + d ≡ n → (if nat_le lo x && nat_lt x hi then c + 1 else c) + (if nat_le 0 x && nat_lt x lo then d + 1 else d) ≡ n + 1
@@ -93,6 +93,15 @@ module _ {V : Type 0} where
           let d : e.0 ≡ index → ⊥ = λ p. grind (arith, nat_tests, eq-eqb e.0 index p) in
           let first : e.0 ≡ lo = omega (arith, length-Rises (e.0 + 1) hi es h.1) in
           r index (omega (arith, d)) q
+
+  -- where the count is 0, a removal takes nothing
+  pub without-count_none : (lo hi : ℕ) (es : List (ℕ × V)) → count_within lo hi es ≡ 0 → without lo hi es ≡ es
+  without-count_none lo hi [] n = refl
+  without-count_none lo hi (e ∷ es) n = cases (is_within lo hi e) n (without-count_none lo hi es)
+    where
+      cases : (b : Bool) → (if b then count_within lo hi es + 1 else count_within lo hi es) ≡ 0 → (count_within lo hi es ≡ 0 → without lo hi es ≡ es) → (if b then without lo hi es else e ∷ without lo hi es) ≡ e ∷ es
+      cases true m r = absurd (omega arith)
+      cases false m r = ap (λ (xs : List (ℕ × V)). e ∷ xs) (r m)
 
   later : (k : ℕ) (e : ℕ × V) (es : List (ℕ × V)) → IsSome (lookup k es) → IsSome (lookup k (e ∷ es))
   later k e es s = elim (nat_eq e.0 k) as (λ b. IsSome (if b then Some e.1 else lookup k es)) [ true ↦ refl | false ↦ s ]

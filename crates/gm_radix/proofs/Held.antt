@@ -72,6 +72,13 @@ module _ {V : Type 0} where
       record { low = omega arith; high = omega arith; is = cc }
   at_leaf index value found (fork other low high count l r is) = absurd (cc)
 
+  -- a fork's tree has its indexes from its block's first one on
+  pub Holds-from : {slots : List (Option (Node V))} {key lo hi : ℕ} {entries : List (ℕ × V)} (parts : Parts) (low : ℕ) → node_at slots key ≡ Some (Fork parts) → low ≤ parts.block.first → Holds slots key lo hi entries → Holds slots key low hi entries
+  Holds-from parts low found below (leaf other p q) = absurd (cc)
+  Holds-from {slots} {key} {lo} {hi} {entries} parts low found below (fork {parts = q} other p h count l r is) =
+      let same : q ≡ parts = cc in
+      fork other (subst (λ (x : Parts). low ≤ x.block.first) (sym same) below) h count l r is
+
   -- what is known of one of a fork's parts
   pub record AtPart (slots : List (Option (Node V))) (key part lo hi : ℕ) : Type 0 where
     pub holds : IsPart slots part lo hi

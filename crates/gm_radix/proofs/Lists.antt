@@ -131,6 +131,26 @@ module _ {V : Type 0} where
       rw (ne_eqb e.0 index (λ p. elim o [ inl a ↦ omega arith | inr b ↦ omega arith ]))
       (gap_from-outside index (e.0 + 1) hi es h.1 (elim o [ inl a ↦ inl (omega arith) | inr b ↦ inr b ]))
 
+  -- it is at most as many indexes further as there are entries
+  pub gap_from-most : (index : ℕ) (es : List (ℕ × V)) → gap_from index es ≤ index + length es
+  gap_from-most index [] = omega arith
+  gap_from-most index (e ∷ es) = cases (nat_eq e.0 index) (λ k. gap_from-most k es)
+    where
+      cases : (b : Bool) → ((k : ℕ) → gap_from k es ≤ k + length es) → gap_from (if b then index + 1 else index) es ≤ index + suc (length es)
+      cases true r = omega (arith, r (index + 1))
+      cases false r = omega (arith, r index)
+
+  -- and within the bounds, or where it began
+  pub gap_from-within : (index lo hi : ℕ) (es : List (ℕ × V)) → Rises lo hi es → index ≤ hi → gap_from index es ≤ hi
+  gap_from-within index lo hi [] h p = p
+  gap_from-within index lo hi (e ∷ es) h p = cases (nat_eq e.0 index) refl (λ k. gap_from-within k (e.0 + 1) hi es h.1)
+    where
+      cases : (b : Bool) → nat_eq e.0 index ≡ b → ((k : ℕ) → k ≤ hi → gap_from k es ≤ hi) → gap_from (if b then index + 1 else index) es ≤ hi
+      cases true t r =
+          let s : e.0 ≡ index = grind (arith, nat_tests) in
+          r (index + 1) (omega arith)
+      cases false t r = r index p
+
   -- on entries that rise it is the first index without a value
   pub gap_from-first : (index lo hi : ℕ) (es : List (ℕ × V)) → Rises lo hi es → IsFirstGap es index (gap_from index es)
   gap_from-first index lo hi [] h = record { after = omega arith; free = refl; taken = λ k p q. absurd (omega arith) }

@@ -1,15 +1,14 @@
 //! Putting an entry into a tree.
 
 ghost use Rattle.std.specs.Prelude.{◌≡◌, ℕ, ◌+◌, ◌*◌, ◌<◌, ◌≤◌, ◌⊎◌, Some, IfSome, IfNone, length};
-ghost use Rattle.slab.specs.Slab.{slab_len, HasRoomFor, Updates};
+ghost use Rattle.slab.specs.Slab.{slab_len, ContainsKey, HasRoomFor, Updates};
 ghost use Rattle.gm_base.specs.declared.numbers.TheConstants.{PAGE_LIMIT};
 ghost use Rattle.gm_radix.specs.Entries.{put};
 ghost use Rattle.gm_radix.specs.declared.node.Parts.{Parts};
-ghost use Rattle.gm_radix.specs.Nodes.{node_at, under, nodes_of, Holds, IsPart, IsTree, Keeps};
+ghost use Rattle.gm_radix.specs.Nodes.{node_at, under, nodes_of, Holds, IsPart, IsTree, Keeps, StandsBeside};
 
-use crate::block::Block;
+use crate::block::{Block, block_beside};
 use crate::node::{Node, Parts};
-use crate::tree::{block_beside, part, set};
 use gm_base::PAGE_LIMIT;
 use slab::Slab;
 
@@ -116,4 +115,52 @@ fn insert_at<V: Copy>(
             part(nodes, key, block, parts.count, index, value);
         }
     }
+}
+
+// Puts an entry beside a tree of so many, in the other half of a block. The block stands under the tree's key.
+fn part<V: Copy>(
+    nodes: &mut Slab<Node<V>>,
+    key: usize,
+    block: Block,
+    count: u64,
+    index: u64,
+    value: V,
+)
+    requires beside { StandsBeside nodes.old.slots key block index }
+    requires count { count ≡ length (under nodes.old.slots key) }
+    requires room { HasRoomFor nodes.old 2 }
+    ensures entries { Holds nodes.new.slots key block.first block.end (put index value (under nodes.old.slots key)) }
+    ensures keeps { Keeps nodes.old.slots nodes.new.slots block.first block.end }
+    ensures nodes { slab_len nodes.new + nodes_of (under nodes.old.slots key) ≡ slab_len nodes.old + nodes_of (put index value (under nodes.old.slots key)) }
+    ensures capacity { nodes.new.capacity ≡ nodes.old.capacity }
+{
+    let node = nodes[key];
+    let moved = nodes.insert_reserved(node);
+    let leaf = nodes.insert_reserved(Node::Leaf(index, value));
+    let (left, right) = if index < block.pivot {
+        (leaf, moved)
+    } else {
+        (moved, leaf)
+    };
+    let count = count + 1;
+    set(
+        nodes,
+        key,
+        Node::Fork(Parts {
+            block,
+            left,
+            right,
+            count,
+        }),
+    );
+}
+
+// Writes a node over the one under a key.
+fn set<V: Drop>(nodes: &mut Slab<Node<V>>, key: usize, node: Node<V>)
+    requires { ContainsKey nodes.old key }
+    ensures updates { Updates nodes.old nodes.new key (Some node) }
+    ensures len { slab_len nodes.new ≡ slab_len nodes.old }
+    ensures capacity { nodes.new.capacity ≡ nodes.old.capacity }
+{
+    nodes[key] = node;
 }

@@ -1,12 +1,11 @@
 //! The tree, by the keys of its nodes.
 
-ghost use Rattle.std.specs.Prelude.{◌≡◌, ℕ, ◌+◌, ◌<◌, ◌≤◌, ◌⊎◌, ◌++◌, Some, length, vec_len, vec_capacity};
-ghost use Rattle.slab.specs.Slab.{slab_len, ContainsKey, HasRoomFor, Updates};
+ghost use Rattle.std.specs.Prelude.{◌≡◌, ℕ, ◌+◌, ◌<◌, ◌≤◌, ◌++◌, Some, length, vec_len, vec_capacity};
+ghost use Rattle.slab.specs.Slab.{slab_len, Updates};
 ghost use Rattle.gm_base.specs.declared.numbers.TheConstants.{PAGE_LIMIT};
-ghost use Rattle.gm_radix.specs.Entries.{lookup, put, within, without, count_within, gap_from};
-ghost use Rattle.gm_radix.specs.Nodes.{node_at, under, nodes_of, entries_of, Holds, HoldsRest, IsPart, IsRest, IsTree, Keeps, StandsBeside};
+ghost use Rattle.gm_radix.specs.Entries.{lookup, within, without, count_within, gap_from};
+ghost use Rattle.gm_radix.specs.Nodes.{node_at, under, nodes_of, entries_of, Holds, HoldsRest, IsPart, IsRest, IsTree, Keeps};
 
-use crate::block::{Block, block_over};
 use crate::node::{Node, Parts};
 use slab::Slab;
 
@@ -31,15 +30,15 @@ pub(crate) fn get<V: Copy>(nodes: &Slab<Node<V>>, key: usize, index: u64) -> Opt
 }
 
 /// Past the indexes from this one on that have values, one after another. A block that is full has no gap, and past the
-/// first half of one the index is that of the second half's beginning, so at most two parts are visited at each depth.
+/// first half of one the index is that of the second half's beginning, from where one way leads down.
 pub(crate) fn first_gap<V: Copy>(nodes: &Slab<Node<V>>, key: usize, index: u64) -> u64
     requires tree { IsTree nodes.now.slots key }
     requires limit { index ≤ PAGE_LIMIT }
     ensures gap { result ≡ gap_from index (under nodes.now.slots key) }
     ensures limit { result ≤ PAGE_LIMIT }
 {
-    match nodes[key] {
-        Node::Leaf(at, _) => if at == index { index + 1 } else { index },
+    match &nodes[key] {
+        Node::Leaf(at, _) => if *at == index { index + 1 } else { index },
         Node::Fork(parts) => {
             let block = parts.block;
             if index < block.first || block.end <= index {
@@ -51,11 +50,43 @@ pub(crate) fn first_gap<V: Copy>(nodes: &Slab<Node<V>>, key: usize, index: u64) 
             if block.pivot <= index {
                 return first_gap(nodes, parts.right, index);
             }
+            if index == block.first {
+                return gap_at_start(nodes, key, index);
+            }
             let gap = first_gap(nodes, parts.left, index);
             if gap < block.pivot {
                 return gap;
             }
-            first_gap(nodes, parts.right, gap)
+            gap_at_start(nodes, parts.right, gap)
+        }
+    }
+}
+
+// The same where the tree has no index below this one. The gap is in the first half of a block unless that is full.
+fn gap_at_start<V: Copy>(nodes: &Slab<Node<V>>, key: usize, index: u64) -> u64
+    requires { IsPart nodes.now.slots key index PAGE_LIMIT }
+    ensures gap { result ≡ gap_from index (under nodes.now.slots key) }
+    ensures limit { result ≤ PAGE_LIMIT }
+{
+    let mut key = key;
+    let mut gap = index;
+    loop {
+        match &nodes[key] {
+            Node::Leaf(at, _) => return if *at == gap { gap + 1 } else { gap },
+            Node::Fork(parts) => {
+                let block = parts.block;
+                if gap < block.first {
+                    return gap;
+                }
+                // As in `count_below` the first half's node isn't read for its count.
+                let left = parts.count - count_of(nodes, parts.right);
+                if left < block.pivot - block.first {
+                    key = parts.left;
+                } else {
+                    gap = block.pivot;
+                    key = parts.right;
+                }
+            }
         }
     }
 }
@@ -282,78 +313,4 @@ fn link<V: Copy>(
             parts.count = count;
         }
     }
-}
-
-// The block over a node's indexes and one beside them. They are all from `from` on and below `to`.
-pub(crate) fn block_beside(first: u64, end: u64, index: u64, from: u64, to: u64) -> Block
-    requires order { first < end }
-    requires apart { (index < first) ⊎ (end ≤ index) }
-    requires low { from ≤ first }
-    requires high { end ≤ to }
-    requires index_low { from ≤ index }
-    requires index_high { index < to }
-    requires limit { to ≤ PAGE_LIMIT }
-    ensures low { from ≤ result.first }
-    ensures high { result.end ≤ to }
-    ensures beside { ((result.first ≤ index) × (index < result.pivot) × (result.pivot ≤ first) × (end ≤ result.end)) ⊎ ((result.first ≤ first) × (end ≤ result.pivot) × (result.pivot ≤ index) × (index < result.end)) }
-{
-    let block = if index < first {
-        block_over(index, first)
-    } else {
-        block_over(end - 1, index)
-    };
-    // The minima and maxima change no number. They keep the order plain, whatever the bits are.
-    Block {
-        first: block.first.min(first).max(from),
-        pivot: block.pivot,
-        end: block.end.max(end).min(to),
-    }
-}
-
-// Puts an entry beside a tree of so many, in the other half of a block. The block stands under the tree's key.
-pub(crate) fn part<V: Copy>(
-    nodes: &mut Slab<Node<V>>,
-    key: usize,
-    block: Block,
-    count: u64,
-    index: u64,
-    value: V,
-)
-    requires beside { StandsBeside nodes.old.slots key block index }
-    requires count { count ≡ length (under nodes.old.slots key) }
-    requires room { HasRoomFor nodes.old 2 }
-    ensures entries { Holds nodes.new.slots key block.first block.end (put index value (under nodes.old.slots key)) }
-    ensures keeps { Keeps nodes.old.slots nodes.new.slots block.first block.end }
-    ensures nodes { slab_len nodes.new + nodes_of (under nodes.old.slots key) ≡ slab_len nodes.old + nodes_of (put index value (under nodes.old.slots key)) }
-    ensures capacity { nodes.new.capacity ≡ nodes.old.capacity }
-{
-    let node = nodes[key];
-    let moved = nodes.insert_reserved(node);
-    let leaf = nodes.insert_reserved(Node::Leaf(index, value));
-    let (left, right) = if index < block.pivot {
-        (leaf, moved)
-    } else {
-        (moved, leaf)
-    };
-    let count = count + 1;
-    set(
-        nodes,
-        key,
-        Node::Fork(Parts {
-            block,
-            left,
-            right,
-            count,
-        }),
-    );
-}
-
-// Writes a node over the one under a key.
-pub(crate) fn set<V: Drop>(nodes: &mut Slab<Node<V>>, key: usize, node: Node<V>)
-    requires { ContainsKey nodes.old key }
-    ensures updates { Updates nodes.old nodes.new key (Some node) }
-    ensures len { slab_len nodes.new ≡ slab_len nodes.old }
-    ensures capacity { nodes.new.capacity ≡ nodes.old.capacity }
-{
-    nodes[key] = node;
 }

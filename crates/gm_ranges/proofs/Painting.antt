@@ -39,18 +39,22 @@ pub rises_painted : (es : List (ℕ × Unit {0})) (lo hi : ℕ) (value : Bool) �
 rises_painted es lo hi value r =
     rises_turn (differ (odd (count_within 0 (hi + 1) es)) value) hi (with_turn (differ (odd (count_within 0 lo es)) value) lo (without lo (hi + 1) es)) (rises_turn (differ (odd (count_within 0 lo es)) value) lo (without lo (hi + 1) es) (rises_without lo (hi + 1) 0 PAGE_LIMIT es r))
 
--- how many entries are before a page then
-count_painted : (es : List (ℕ × Unit {0})) (lo hi n : ℕ) (a b : Bool) → lo < hi → count_within 0 n (with_turn b hi (with_turn a lo (without lo (hi + 1) es))) ≡ (count_within 0 n (without lo (hi + 1) es) + cond (a && nat_lt lo PAGE_LIMIT) (cond (nat_lt lo n) 1 0) 0) + cond (b && nat_lt hi PAGE_LIMIT) (cond (nat_lt hi n) 1 0) 0
-count_painted es lo hi n a b less =
-    count_turn n b hi (with_turn a lo (without lo (hi + 1) es)) (free (a && nat_lt lo PAGE_LIMIT))
-    ∙ ap (λ m. m + cond (b && nat_lt hi PAGE_LIMIT) (cond (nat_lt hi n) 1 0) 0) (count_turn n a lo (without lo (hi + 1) es) (lookup_without lo (hi + 1) lo es (omega arith) (omega arith)))
+-- after an edge at a span's first page none is at its end
+pub end_free : (turns : Bool) (lo hi : ℕ) (es : List (ℕ × Unit {0})) → lo < hi → lookup hi (with_turn turns lo (without lo (hi + 1) es)) ≡ None
+end_free turns lo hi es less = cases (turns && nat_lt lo PAGE_LIMIT)
   where
     apart : lo ≢ hi
     apart e = omega arith
 
-    free : (t : Bool) → lookup hi (cond t (put lo tt (without lo (hi + 1) es)) (without lo (hi + 1) es)) ≡ None
-    free true = lookup_put_other lo tt hi (without lo (hi + 1) es) apart ∙ lookup_without lo (hi + 1) hi es (omega arith) (omega arith)
-    free false = lookup_without lo (hi + 1) hi es (omega arith) (omega arith)
+    cases : (t : Bool) → lookup hi (cond t (put lo tt (without lo (hi + 1) es)) (without lo (hi + 1) es)) ≡ None
+    cases true = lookup_put_other lo tt hi (without lo (hi + 1) es) apart ∙ lookup_without lo (hi + 1) hi es (omega arith) (omega arith)
+    cases false = lookup_without lo (hi + 1) hi es (omega arith) (omega arith)
+
+-- how many entries are before a page then
+count_painted : (es : List (ℕ × Unit {0})) (lo hi n : ℕ) (a b : Bool) → lo < hi → count_within 0 n (with_turn b hi (with_turn a lo (without lo (hi + 1) es))) ≡ (count_within 0 n (without lo (hi + 1) es) + cond (a && nat_lt lo PAGE_LIMIT) (cond (nat_lt lo n) 1 0) 0) + cond (b && nat_lt hi PAGE_LIMIT) (cond (nat_lt hi n) 1 0) 0
+count_painted es lo hi n a b less =
+    count_turn n b hi (with_turn a lo (without lo (hi + 1) es)) (end_free a lo hi es less)
+    ∙ ap (λ m. m + cond (b && nat_lt hi PAGE_LIMIT) (cond (nat_lt hi n) 1 0) 0) (count_turn n a lo (without lo (hi + 1) es) (lookup_without lo (hi + 1) lo es (omega arith) (omega arith)))
 
 sum_before : (w c lo hi n limit : ℕ) (a b : Bool) → n ≤ lo → lo < hi → w ≡ c → (w + cond (a && nat_lt lo limit) (cond (nat_lt lo n) 1 0) 0) + cond (b && nat_lt hi limit) (cond (nat_lt hi n) 1 0) 0 ≡ c
 sum_before w c lo hi n limit a b p q e = grind (arith, nat_tests)

@@ -1,9 +1,9 @@
 //! Maps of the pages at which a value changes.
 
-ghost use Rattle.std.specs.Prelude.{◌≡◌, ℕ, ◌+◌, ◌<◌, ◌≤◌, if◌then◌else◌, false};
+ghost use Rattle.std.specs.Prelude.{◌≡◌, ℕ, ◌+◌, ◌<◌, ◌≤◌, if◌then◌else◌, None, false};
 ghost use Rattle.gm_base.specs.declared.numbers.TheConstants.{PAGE_LIMIT};
 ghost use Rattle.gm_base.specs.Extent.{holds};
-ghost use Rattle.gm_radix.specs.Entries.{Rises, count_within};
+ghost use Rattle.gm_radix.specs.Entries.{Rises, count_within, lookup};
 ghost use Rattle.gm_ranges.specs.Runs.{differ, edges_of, odd, turned, with_turn};
 
 use gm_base::{PAGE_LIMIT, Span};
@@ -23,14 +23,16 @@ pub(crate) fn is_odd(number: u64) -> bool
     number % 2 == 1
 }
 
-/// Puts an edge at a page below the limit that has none, if the value turns there. It takes no memory but what is kept.
+/// Puts an edge at a page that has none, if the value turns there and it is below the limit. It takes no memory but what
+/// is kept.
 pub(crate) fn turn(edges: &mut Radix<()>, page: u64, turns: bool)
-    requires { 0 < edges.old.spare }
+    requires free { lookup page edges.old.entries ≡ None }
+    requires room { 0 < edges.old.spare }
     ensures entries { edges.new.entries ≡ with_turn turns page edges.old.entries }
     ensures spare { edges.old.spare ≤ edges.new.spare + 1 }
 {
     if turns && page < PAGE_LIMIT {
-        edges.insert(page, ());
+        edges.insert_new(page, ());
     }
 }
 

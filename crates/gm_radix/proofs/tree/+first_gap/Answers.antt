@@ -1,7 +1,8 @@
 use Rattle.std.proofs.Common.{Some, inl, inr, arith, ap, sym, ◌∙◌}
 use Rattle.gm_radix.proofs.Counts.{gap_from-full}
-use Rattle.gm_radix.proofs.Held.{at_fork}
-use Rattle.gm_radix.proofs.Lists.{gap_from-append, gap_from-outside}
+use Rattle.gm_radix.proofs.Held.{at_fork, Holds-from, Holds-wider}
+use Rattle.gm_radix.proofs.Lists.{gap_from-append, gap_from-outside, gap_from-within}
+use Rattle.gm_base.specs.declared.numbers.TheConstants.{PAGE_LIMIT}
 use Rattle.gm_radix.specs.Nodes.{under}
 use Rattle.gm_radix.proofs.tree.+first_gap.Goals as goal
 
@@ -15,10 +16,15 @@ first_gap-gap-requires g t c κs within =
     let f = at_fork c.in-Fork.parts (omega arith) (c.index.ensures ∙ ap (λ n. Some n) c.in-Fork.is) c.requires.tree in
     (omega (arith, f.left.less, c.decreases), (within, (f.left.tree, c.requires.limit)))
 
-pub first_gap-requires-in-Fork : goal.first_gap-requires-in-Fork
-first_gap-requires-in-Fork g t c κs within =
+pub gap_at_start-requires : goal.gap_at_start-requires
+gap_at_start-requires g t c =
+    Holds-from c.in-Fork.parts c.args.index (c.index.ensures ∙ ap (λ n. Some n) c.in-Fork.is) (omega (arith, c.if-index-block-2.true)) c.requires.tree
+
+pub gap_at_start-requires-in-Fork : goal.gap_at_start-requires-in-Fork
+gap_at_start-requires-in-Fork g t c =
     let f = at_fork c.in-Fork.parts (omega arith) (c.index.ensures ∙ ap (λ n. Some n) c.in-Fork.is) c.requires.tree in
-    (omega (arith, f.right.less, c.decreases), (within, (f.right.tree, c.first_gap-gap.ensures.limit)))
+    let left = under c.args.nodes.now.slots c.in-Fork.parts.left in
+    Holds-wider c.first_gap-gap.result PAGE_LIMIT (omega (arith, c.first_gap-gap.ensures.gap, gap_from-within c.args.index _ _ left f.left.rises (omega (arith, c.if-block-index-2.false)))) (omega (arith, f.high)) f.right.holds
 
 pub returns-then-block-index-2-clause-gap : goal.returns-then-block-index-2-clause-gap
 returns-then-block-index-2-clause-gap g t c =

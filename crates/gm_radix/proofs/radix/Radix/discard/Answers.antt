@@ -1,6 +1,7 @@
 use Rattle.std.proofs.Common.{arith, sym}
 use Rattle.gm_radix.specs.Nodes.{under}
 use Rattle.gm_radix.specs.Entries.{without}
+use Rattle.gm_radix.proofs.Counts.{without-count_none}
 use Rattle.gm_radix.proofs.Frames.{entries_of-HoldsRest}
 use Rattle.gm_radix.proofs.Lists.{without-none}
 use Rattle.gm_radix.proofs.Kept.{IsKept-HoldsRest}
@@ -25,3 +26,7 @@ returns-clause-count g c =
 
 pub returns-then-hi-lo-clause-entries : goal.returns-then-hi-lo-clause-entries
 returns-then-hi-lo-clause-entries g c = sym (without-none c.args.lo c.args.hi c.args.self.now.entries c.if-hi-lo.true)
+
+pub returns-then-count_in-eq0-clause-entries : goal.returns-then-count_in-eq0-clause-entries
+returns-then-count_in-eq0-clause-entries g c =
+    rw (← c.self.view_is, c.in-Some.is) (sym (without-count_none c.args.lo c.args.hi (under c.self.inside.nodes.slots c.in-Some.key) (omega (arith, c.count_in.ensures, c.if-count_in-eq0.true))))

@@ -1,7 +1,7 @@
 use Rattle.std.proofs.Common.{inl, inr, arith}
 use Rattle.gm_radix.proofs.Frames.{part_before, part_after, length-beside, nodes_of-put_beside}
-use Rattle.gm_radix.proofs.tree.part.Goals as goal
-use Rattle.gm_radix.proofs.tree.part.Goals.{then-index-block, else-index-block}
+use Rattle.gm_radix.proofs.inserting.part.Goals as goal
+use Rattle.gm_radix.proofs.inserting.part.Goals.{then-index-block, else-index-block}
 
 pub returns-clause-entries : goal.returns-clause-entries
 returns-clause-entries g c =
