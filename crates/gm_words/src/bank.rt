@@ -169,7 +169,8 @@ fn add_page(words: &mut Vec<u64>)
     ensures len { length words.new.items ≡ length words.old.items + PAGE_WORDS }
     ensures capacity { vec_capacity words.old ≤ vec_capacity words.new }
 {
-    match words.resize(words.len() + PAGE_WORDS as usize, 0) {
+    let page = [0; PAGE_WORDS as usize];
+    match words.extend_from_slice(&page) {
         Ok(()) => {}
         Err(_) => unreachable!(),
     }
