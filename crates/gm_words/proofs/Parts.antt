@@ -75,9 +75,9 @@ kept_page bank pages homes words seen page place at k e h found is at_is whole r
 -- zeros at the end of a list change no word of it
 pub padded : (xs : List ℕ) (k n : ℕ) → get_or (xs ++ replicate {A = ℕ} k 0) n 0 ≡ get_or xs n 0
 padded xs k n = elim (cases_lt n (length xs)) [
-    | inl p ↦ get_or-append xs (replicate {A = ℕ} k 0) 0 n p
-    | inr q ↦ get_or-append_right xs (replicate {A = ℕ} k 0) n 0 q ∙ (zeros (n - length xs) ∙ sym (get_or_past xs n 0 q))
-  ]
+  | inl p ↦ get_or-append xs (replicate {A = ℕ} k 0) 0 n p
+  | inr q ↦ get_or-append_right xs (replicate {A = ℕ} k 0) n 0 q ∙ (zeros (n - length xs) ∙ sym (get_or_past xs n 0 q))
+]
   where
     zeros : (m : ℕ) → get_or {A = ℕ} (replicate {A = ℕ} k 0) m 0 ≡ 0
     zeros m = elim (cases_lt m k) [ inl p ↦ get_or-replicate k m 0 0 p | inr q ↦ get_or_past (replicate {A = ℕ} k 0) m 0 (omega (arith, length-replicate {A = ℕ} k 0)) ]
