@@ -8,8 +8,9 @@ use Rattle.gm_base.specs.declared.numbers.TheConstants.{PAGE_LIMIT}
 use Rattle.gm_radix.specs.declared.node.Node.{Node}
 use Rattle.gm_radix.specs.declared.node.Node.TheVariants.{Fork}
 use Rattle.gm_radix.specs.declared.node.Parts.{Parts}
+use Rattle.gm_radix.specs.declared.inserting.Half.{Half}
 use Rattle.gm_radix.specs.Entries.{lookup, put, Rises}
-use Rattle.gm_radix.specs.Nodes.{node_at, under, Holds, fork, IsPart, Keeps}
+use Rattle.gm_radix.specs.Nodes.{node_at, under, HasHalf, Holds, fork, IsPart, Keeps}
 use Rattle.gm_radix.proofs.Frames.{Holds-apart, Holds-updates, Keeps-then, Keeps-updates, Keeps-wider}
 use Rattle.gm_radix.proofs.Held.{Holds-order, at_fork, under-Holds}
 use Rattle.gm_radix.proofs.Lists.{length-put, length-Rises, lookup-outside, put-left, put-right}
@@ -58,7 +59,7 @@ module _ {V : Type 0} where
       let stays = Holds-updates (Fork parts) u found out h in
       (under-Holds limit stays, stays)
 
-  pub goes_left : {old now next : Slab (Node V)} {root key from to index added : ℕ} {value : V} (parts : Parts) → Descends old now root key from to index added value → node_at now.slots key ≡ Some (Fork parts) → parts.block.first ≤ index → index < parts.block.pivot → Updates now next key (Some (Fork (record parts { count = parts.count + added }))) → Descends old next root parts.left parts.block.first parts.block.pivot index added value
+  goes_left : {old now next : Slab (Node V)} {root key from to index added : ℕ} {value : V} (parts : Parts) → Descends old now root key from to index added value → node_at now.slots key ≡ Some (Fork parts) → parts.block.first ≤ index → index < parts.block.pivot → Updates now next key (Some (Fork (record parts { count = parts.count + added }))) → Descends old next root parts.left parts.block.first parts.block.pivot index added value
   goes_left {old} {now} {next} {root} {key} {from} {to} {index} {added} {value} parts d found low high u =
       let f = at_fork parts d.limit found d.part in
       let a = Holds-order f.left.holds in
@@ -88,7 +89,7 @@ module _ {V : Type 0} where
             (Keeps-then (Keeps-updates (Fork parts) u found f.low f.high) (Keeps-wider from to (omega arith) (omega arith) k));
       }
 
-  pub goes_right : {old now next : Slab (Node V)} {root key from to index added : ℕ} {value : V} (parts : Parts) → Descends old now root key from to index added value → node_at now.slots key ≡ Some (Fork parts) → parts.block.pivot ≤ index → index < parts.block.end → Updates now next key (Some (Fork (record parts { count = parts.count + added }))) → Descends old next root parts.right parts.block.pivot parts.block.end index added value
+  goes_right : {old now next : Slab (Node V)} {root key from to index added : ℕ} {value : V} (parts : Parts) → Descends old now root key from to index added value → node_at now.slots key ≡ Some (Fork parts) → parts.block.pivot ≤ index → index < parts.block.end → Updates now next key (Some (Fork (record parts { count = parts.count + added }))) → Descends old next root parts.right parts.block.pivot parts.block.end index added value
   goes_right {old} {now} {next} {root} {key} {from} {to} {index} {added} {value} parts d found low high u =
       let f = at_fork parts d.limit found d.part in
       let a = Holds-order f.left.holds in
@@ -127,7 +128,7 @@ module _ {V : Type 0} where
       omega (arith, f.count, d.grows, length-put index value (under now.slots key), length-Rises parts.block.first parts.block.end (under now.slots key) f.rises)
 
   -- the bounds come closer
-  pub closer_left : {old now : Slab (Node V)} {root key from to index added : ℕ} {value : V} (parts : Parts) → Descends old now root key from to index added value → node_at now.slots key ≡ Some (Fork parts) → parts.block.pivot - parts.block.first < to - from
+  closer_left : {old now : Slab (Node V)} {root key from to index added : ℕ} {value : V} (parts : Parts) → Descends old now root key from to index added value → node_at now.slots key ≡ Some (Fork parts) → parts.block.pivot - parts.block.first < to - from
   closer_left parts d found =
       let f = at_fork parts d.limit found d.part in
       let a = Holds-order f.left.holds in
@@ -136,7 +137,7 @@ module _ {V : Type 0} where
       let bottom = f.low in
       omega arith
 
-  pub closer_right : {old now : Slab (Node V)} {root key from to index added : ℕ} {value : V} (parts : Parts) → Descends old now root key from to index added value → node_at now.slots key ≡ Some (Fork parts) → parts.block.end - parts.block.pivot < to - from
+  closer_right : {old now : Slab (Node V)} {root key from to index added : ℕ} {value : V} (parts : Parts) → Descends old now root key from to index added value → node_at now.slots key ≡ Some (Fork parts) → parts.block.end - parts.block.pivot < to - from
   closer_right parts d found =
       let f = at_fork parts d.limit found d.part in
       let a = Holds-order f.left.holds in
@@ -144,3 +145,12 @@ module _ {V : Type 0} where
       let top = f.high in
       let bottom = f.low in
       omega arith
+
+  -- the way goes on in the half that has the index
+  pub goes_on : {old now next : Slab (Node V)} {root key from to index added : ℕ} {value : V} (parts : Parts) (half : Half) → Descends old now root key from to index added value → node_at now.slots key ≡ Some (Fork parts) → parts.block.first ≤ index → index < parts.block.end → Updates now next key (Some (Fork (record parts { count = parts.count + added }))) → HasHalf parts index half → Descends old next root half.key half.from half.to index added value
+  goes_on parts half d found low high u (inl h) = rw h.1 (goes_left parts d found low h.0 u)
+  goes_on parts half d found low high u (inr h) = rw h.1 (goes_right parts d found h.0 high u)
+
+  pub closer : {old now : Slab (Node V)} {root key from to index added : ℕ} {value : V} (parts : Parts) (half : Half) → Descends old now root key from to index added value → node_at now.slots key ≡ Some (Fork parts) → HasHalf parts index half → half.to - half.from < to - from
+  closer parts half d found (inl h) = rw h.1 (closer_left parts d found)
+  closer parts half d found (inr h) = rw h.1 (closer_right parts d found)

@@ -6,6 +6,7 @@ use Rattle.gm_radix.specs.declared.node.Node.{Node}
 use Rattle.gm_radix.specs.declared.node.Node.TheVariants.{Leaf, Fork}
 use Rattle.gm_radix.specs.declared.node.Parts.{Parts}
 use Rattle.gm_radix.specs.declared.block.Block.{Block}
+use Rattle.gm_radix.specs.declared.inserting.Half.{Half}
 
 module _ {V : Type 0} where
   -- the node under a key
@@ -83,3 +84,9 @@ module _ {V : Type 0} where
     pub rest : IsRest slots root 0 PAGE_LIMIT
     pub nodes : len ≡ nodes_of (entries_of slots root)
     pub room : len + 2 * spare ≤ capacity
+
+-- the half of a fork's block that has the index
+abbrev pub HasHalf : Parts → ℕ → Half → Type 0
+HasHalf parts index half =
+    ((index < parts.block.pivot) × (half ≡ record { key = parts.left; from = parts.block.first; to = parts.block.pivot }))
+    ⊎ ((parts.block.pivot ≤ index) × (half ≡ record { key = parts.right; from = parts.block.pivot; to = parts.block.end }))

@@ -5,7 +5,7 @@ ghost use Rattle.slab.specs.Slab.{slab_len, ContainsKey, HasRoomFor, Updates};
 ghost use Rattle.gm_base.specs.declared.numbers.TheConstants.{PAGE_LIMIT};
 ghost use Rattle.gm_radix.specs.Entries.{put};
 ghost use Rattle.gm_radix.specs.declared.node.Parts.{Parts};
-ghost use Rattle.gm_radix.specs.Nodes.{node_at, under, nodes_of, Holds, IsPart, IsTree, Keeps, StandsBeside};
+ghost use Rattle.gm_radix.specs.Nodes.{node_at, under, nodes_of, HasHalf, Holds, IsPart, IsTree, Keeps, StandsBeside};
 
 use crate::block::{Block, block_beside};
 use crate::node::{Node, Parts};
@@ -32,52 +32,57 @@ pub(crate) fn insert<V: Copy>(
     let mut key = root;
     let mut from = 0;
     let mut to = PAGE_LIMIT;
-    while let Some(parts) = fork_over(nodes, key, index) {
-        let block = parts.block;
-        count_more(nodes, key, parts, added);
-        if index < block.pivot {
-            from = block.first;
-            to = block.pivot;
-            key = parts.left;
-        } else {
-            from = block.pivot;
-            to = block.end;
-            key = parts.right;
-        }
+    while let Some(half) = step(nodes, key, index, added) {
+        from = half.from;
+        to = half.to;
+        key = half.key;
     }
     insert_at(nodes, key, from, to, index, value);
 }
 
-// The fork under the key, where its block has the index.
-fn fork_over<V: Copy>(nodes: &Slab<Node<V>>, key: usize, index: u64) -> Option<Parts>
-    requires { IsTree nodes.now.slots key }
-    ensures some { IfSome result (λ p. (node_at nodes.now.slots key ≡ Some (Node.Fork p)) × (p.block.first ≤ index) × (index < p.block.end)) }
-    ensures none { IfNone result ((p : Parts) → node_at nodes.now.slots key ≡ Some (Node.Fork p) → (index < p.block.first) ⊎ (p.block.end ≤ index)) }
-{
-    match nodes[key] {
-        Node::Leaf(_, _) => None,
-        Node::Fork(parts) => {
-            let block = parts.block;
-            if block.first <= index && index < block.end {
-                Some(parts)
-            } else {
-                None
-            }
-        }
-    }
+// A half of a fork's block: the key of its part, and its bounds.
+#[derive(Clone, Copy)]
+pub(crate) struct Half {
+    pub key: usize,
+    pub from: u64,
+    pub to: u64,
 }
 
-// Counts so many more entries of the fork under the key.
-fn count_more<V: Copy>(nodes: &mut Slab<Node<V>>, key: usize, parts: Parts, added: u64)
-    requires fork { node_at nodes.old.slots key ≡ Some (Node.Fork parts) }
-    requires limit { parts.count + added ≤ PAGE_LIMIT + 1 }
-    ensures updates { Updates nodes.old nodes.new key (Some (Node.Fork (record parts { count = parts.count + added }))) }
+// Counts so many more entries of the fork under the key where its block has the index, and tells the half that has it.
+#[inline(always)]
+fn step<V: Copy>(nodes: &mut Slab<Node<V>>, key: usize, index: u64, added: u64) -> Option<Half>
+    requires tree { IsTree nodes.old.slots key }
+    requires limit { (p : Parts) → node_at nodes.old.slots key ≡ Some (Node.Fork p) → p.count + added ≤ PAGE_LIMIT + 1 }
+    ensures some { IfSome result (λ half. (p : Parts) × (node_at nodes.old.slots key ≡ Some (Node.Fork p)) × (p.block.first ≤ index) × (index < p.block.end) × Updates nodes.old nodes.new key (Some (Node.Fork (record p { count = p.count + added }))) × HasHalf p index half) }
+    ensures none { IfNone result ((p : Parts) → node_at nodes.old.slots key ≡ Some (Node.Fork p) → (index < p.block.first) ⊎ (p.block.end ≤ index)) }
+    ensures same { IfNone result (nodes.new ≡ nodes.old) }
     ensures len { slab_len nodes.new ≡ slab_len nodes.old }
     ensures capacity { nodes.new.capacity ≡ nodes.old.capacity }
 {
-    if let Node::Fork(there) = &mut nodes[key] {
-        there.count = parts.count + added;
+    let Node::Fork(parts) = &nodes[key] else {
+        return None;
+    };
+    let block = parts.block;
+    if index < block.first || block.end <= index {
+        return None;
     }
+    let half = if index < block.pivot {
+        Half {
+            key: parts.left,
+            from: block.first,
+            to: block.pivot,
+        }
+    } else {
+        Half {
+            key: parts.right,
+            from: block.pivot,
+            to: block.end,
+        }
+    };
+    if let Node::Fork(parts) = &mut nodes[key] {
+        parts.count += added;
+    }
+    Some(half)
 }
 
 // Puts the value at the index where the way down ends: into a leaf, or beside the tree under the key.
