@@ -1,11 +1,9 @@
 -- A whole page written at once.
-use Rattle.std.proofs.Common.{[], ◌≡◌, ◌≢◌, ℕ, ◌+◌, ◌-◌, ◌++◌, ◌*◌, ◌<◌, ◌≤◌, List, length, get_or, set, sym, ◌∙◌, ap, arith, replicate, take, drop, length-take, length-drop, get_or-take, get_or-drop, ◌⊎◌, inl, inr}
+use Rattle.std.proofs.Common.{[], ◌≡◌, ◌≢◌, ℕ, ◌+◌, ◌*◌, ◌<◌, ◌≤◌, List, length, get_or, set, sym, ◌∙◌, ap, arith, replicate, take, drop, length-take, length-drop, get_or-take, get_or-drop, ◌⊎◌, inl, inr}
 use Rattle.std.specs.Prelude.{None, Some}
 use Rattle.std.specs.declared.option.Option.{Option}
-use Rattle.std.proofs.lemmas.List.{places, get_or_default, set-get_or, same_lists, length-replicate, get_or-replicate, get_or_past}
+use Rattle.std.proofs.lemmas.List.{places, get_or_default, set-get_or, same_lists, length-replicate, get_or-replicate}
 use Rattle.std.proofs.lemmas.Bool.{cases_lt}
-use Rattle.std.proofs.Math.ListN.{get_or-append}
-use Rattle.std.proofs.Math.Seq.{get_or-append_right}
 use borrow.Rule.Slice.PartMut.{put_mid}
 use Rattle.gm_base.specs.declared.numbers.TheConstants.{PAGE_WORDS}
 use Rattle.gm_words.specs.Banks.{bank_from, page_in, place_of, zero_page}
@@ -71,13 +69,3 @@ kept_page bank pages homes words seen page place at k e h found is at_is whole r
     here w l =
         get_or-take k (drop at seen) w 0 (omega arith)
         ∙ (get_or-drop at seen w 0 ∙ (ap (λ (xs : List ℕ). get_or xs (at + w) 0) is ∙ ap (λ n. get_or words n 0) (omega arith)))
-
--- zeros at the end of a list change no word of it
-pub padded : (xs : List ℕ) (k n : ℕ) → get_or (xs ++ replicate {A = ℕ} k 0) n 0 ≡ get_or xs n 0
-padded xs k n = elim (cases_lt n (length xs)) [
-  | inl p ↦ get_or-append xs (replicate {A = ℕ} k 0) 0 n p
-  | inr q ↦ get_or-append_right xs (replicate {A = ℕ} k 0) n 0 q ∙ (zeros (n - length xs) ∙ sym (get_or_past xs n 0 q))
-]
-  where
-    zeros : (m : ℕ) → get_or {A = ℕ} (replicate {A = ℕ} k 0) m 0 ≡ 0
-    zeros m = elim (cases_lt m k) [ inl p ↦ get_or-replicate k m 0 0 p | inr q ↦ get_or_past (replicate {A = ℕ} k 0) m 0 (omega (arith, length-replicate {A = ℕ} k 0)) ]

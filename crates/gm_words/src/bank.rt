@@ -169,8 +169,7 @@ fn add_page(words: &mut Vec<u64>)
     ensures len { length words.new.items ≡ length words.old.items + PAGE_WORDS }
     ensures capacity { vec_capacity words.old ≤ vec_capacity words.new }
 {
-    let page = [0; PAGE_WORDS as usize];
-    match words.extend_from_slice(&page) {
+    match words.resize(words.len() + PAGE_WORDS as usize, 0) {
         Ok(()) => {}
         Err(_) => unreachable!(),
     }
