@@ -1,10 +1,11 @@
 -- Caches as lists of entries: what a put and a cut leave.
 use Rattle.std.proofs.Common.{◌≡◌, ℕ, ◌+◌, ◌<◌, ◌≤◌, List, [], ◌∷◌, length, Bool, true, false, ◌&&◌, cond, Option, None, Some, refl, sym, ◌∙◌, ap, arith}
-use Rattle.std.specs.Prelude.{IsSome, nat_eq, nat_lt, nat_le}
+use Rattle.std.specs.Prelude.{IsSome, min, nat_eq, nat_lt, nat_le}
+use Rattle.std.proofs.lemmas.Bool.{eq-eqb}
 use Rattle.std.proofs.lemmas.Bool.Decides.{nat_tests}
 use Rattle.gm_base.specs.declared.values.Folio.{Folio}
 use Rattle.gm_radix.specs.Entries.{lookup, put, within, without, is_within, Rises}
-use Rattle.gm_file.specs.Views.{unless_within}
+use Rattle.gm_file.specs.Views.{IsFull, unless_within}
 
 -- the entries of a range are no more than all
 pub within_le : (lo hi : ℕ) (es : List (ℕ × Folio)) → length (within lo hi es) ≤ length es
@@ -116,3 +117,36 @@ lookup-without k lo hi (e ∷ es) = cases (is_within lo hi e) (nat_eq e.0 k) ref
     cases true false p q h = h
     cases false true p q h = ap (λ (b : Bool). cond b (Some e.1) (lookup k (without lo hi es))) q ∙ sym (ap (λ (b : Bool). cond b None (Some e.1)) (sym (same q) ∙ p))
     cases false false p q h = ap (λ (b : Bool). cond b (Some e.1) (lookup k (without lo hi es))) q ∙ h
+
+-- a later end
+pub rises-to : (low limit end : ℕ) (es : List (ℕ × Folio)) → limit ≤ end → Rises low limit es → Rises low end es
+rises-to low limit end [] p r = tt
+rises-to low limit end (e ∷ es) p r = ((r.0.0, omega (arith, r.0.1)), rises-to (e.0 + 1) limit end es p r.1)
+
+some_or : (b : Bool) (folio : Folio) (o : Option Folio) → IsSome o → IsSome (cond b (Some folio) o)
+some_or true folio o s = refl
+some_or false folio o s = s
+
+-- a put takes nothing away
+pub full-put : (full index : ℕ) (folio : Folio) (es : List (ℕ × Folio)) → IsFull full es → IsFull full (put index folio es)
+full-put full index folio es h k p = rw (lookup-put k index folio es) (some_or (nat_eq k index) folio (lookup k es) (h k p))
+
+-- and at the first index that isn't cached it adds that one
+pub full-next : (full index : ℕ) (folio : Folio) (es : List (ℕ × Folio)) → index ≡ full → IsFull full es → IsFull (full + 1) (put index folio es)
+full-next full index folio es same h k p =
+    rw (lookup-put k index folio es) (cases (nat_eq k index) refl)
+  where
+    cases : (b : Bool) → nat_eq k index ≡ b → IsSome (cond b (Some folio) (lookup k es))
+    cases true t = refl
+    cases false t =
+        let other : k ≡ index → ⊥ = λ q. grind (arith, nat_tests, eq-eqb k index q) in
+        h k (omega (arith, other))
+
+-- a cut leaves what is before it
+pub full-cut : (full lo hi : ℕ) (es : List (ℕ × Folio)) → IsFull full es → IsFull (min full lo) (without lo hi es)
+full-cut full lo hi es h k p =
+    rw (lookup-without k lo hi es) (cases (nat_le lo k && nat_lt k hi) refl)
+  where
+    cases : (b : Bool) → (nat_le lo k && nat_lt k hi) ≡ b → IsSome (cond b None (lookup k es))
+    cases true t = absurd (grind (arith, nat_tests))
+    cases false t = h k (omega arith)

@@ -20,6 +20,10 @@ pub struct File {
     pages: u64,
     block: bool,
     cache: Radix<Folio>,
+    // Every index below `full` is cached, and none from `end` on. Most files are filled from their start, so these two
+    // tell most of what is asked.
+    full: u64,
+    end: u64,
     // In order of index.
     bound: Vec<BoundRange>,
     page_spare: u32,
@@ -31,13 +35,13 @@ impl Model for File {
     ghost use Rattle.gm_base.specs.declared.numbers.TheConstants.{PAGE_LIMIT};
     ghost use Rattle.gm_radix.specs.Entries.{Rises};
     ghost use Rattle.gm_file.specs.Ranges.{LieApart};
-    ghost use Rattle.gm_file.specs.Views.{FileView};
+    ghost use Rattle.gm_file.specs.Views.{FileView, IsFull};
 
     ghost Value = { FileView };
 
     ghost view = { λ f. record { pages = f.pages; block = f.block; cached = f.cache.entries; bound = f.bound.items; page_spare = f.page_spare; bind_spare = f.bind_spare } };
 
-    ghost invariant = { λ f. (f.pages ≤ PAGE_LIMIT) × Rises 0 f.pages f.cache.entries × LieApart 0 f.bound.items × (f.page_spare ≤ f.cache.spare) × (vec_len f.bound + f.bind_spare ≤ vec_capacity f.bound) };
+    ghost invariant = { λ f. (f.pages ≤ PAGE_LIMIT) × Rises 0 f.end f.cache.entries × LieApart 0 f.bound.items × (f.page_spare ≤ f.cache.spare) × (vec_len f.bound + f.bind_spare ≤ vec_capacity f.bound) × (f.end ≤ f.pages) × IsFull f.full f.cache.entries };
 }
 
 impl File {
@@ -54,6 +58,8 @@ impl File {
             pages,
             block,
             cache: Radix::new(alloc),
+            full: 0,
+            end: 0,
             bound: Vec::new(alloc),
             page_spare: 0,
             bind_spare: 0,
@@ -102,20 +108,26 @@ impl File {
         // Nothing is cached past the file's size.
         ensures inside { IsSome result → index < self.now.pages }
     {
-        self.cache.get(index)
+        if index < self.end {
+            self.cache.get(index)
+        } else {
+            None
+        }
     }
 
     /// The least index from `lo` on and below `hi` that isn't cached. However much is cached, it is found along the depth of
-    /// the cache's tree.
+    /// the cache's tree, or at once where all that is cached stands at the file's start.
     pub fn next_free(&self, lo: u64, hi: u64) -> Option<u64>
         ensures first { IfSome result (IsFirstGap self.now.cached lo) }
         ensures below { IfSome result (λ index. index < hi) }
         ensures none { IfNone result ((index : ℕ) → lo ≤ index → index < hi → IsSome (lookup index self.now.cached)) }
     {
-        let free = if lo < self.pages {
-            self.cache.first_gap(lo)
-        } else {
+        let free = if self.end <= lo {
             lo
+        } else if self.full == self.end {
+            self.full
+        } else {
+            self.cache.first_gap(lo)
         };
         if free < hi { Some(free) } else { None }
     }
@@ -139,6 +151,10 @@ impl File {
     {
         self.cache.insert_new(index, folio);
         self.page_spare -= 1;
+        self.end = self.end.max(index + 1);
+        if index == self.full {
+            self.full += 1;
+        }
     }
 
     /// Moves what is cached from `lo` on and below `hi` to the end of a list that has room for all that is cached, in
@@ -152,6 +168,7 @@ impl File {
         ensures cached { (k : ℕ) → lookup k self.new.cached ≡ unless_within lo hi k (lookup k self.old.cached) }
     {
         out.take_from(&mut self.cache, lo, hi);
+        self.full = self.full.min(lo);
     }
 
     /// Binds the indexes from `lo` on and below `hi` for a slot. Refused where one of them is bound, with the slot of the

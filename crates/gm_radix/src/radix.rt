@@ -122,11 +122,7 @@ impl<V: Copy> Radix<V> {
         let Some(key) = self.root else {
             return 0;
         };
-        // Most often none is there, and one way down tells so.
-        if tree::count_in(&self.nodes, key, lo, hi) == 0 {
-            return 0;
-        }
-        let rest = tree::discard(&mut self.nodes, key, 0, PAGE_LIMIT, lo, hi);
+        let rest = tree::discard_any(&mut self.nodes, key, lo, hi);
         self.root = rest.key;
         rest.gone
     }

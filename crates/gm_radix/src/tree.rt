@@ -7,6 +7,7 @@ ghost use Rattle.gm_radix.specs.Entries.{lookup, within, without, count_within, 
 ghost use Rattle.gm_radix.specs.Nodes.{node_at, under, nodes_of, entries_of, Holds, HoldsRest, IsPart, IsRest, IsTree, Keeps};
 
 use crate::node::{Node, Parts};
+use gm_base::PAGE_LIMIT;
 use slab::Slab;
 
 /// The value at the index.
@@ -204,6 +205,23 @@ pub(crate) fn collect<V: Copy>(
 pub(crate) struct Rest {
     pub key: Option<usize>,
     pub gone: u64,
+}
+
+/// Takes the entries away whose index is at least `lo` and below `hi`. Most often none is there, which one way down tells.
+pub(crate) fn discard_any<V: Copy>(nodes: &mut Slab<Node<V>>, key: usize, lo: u64, hi: u64) -> Rest
+    requires { IsTree nodes.old.slots key }
+    ensures rest { HoldsRest nodes.new.slots result.key 0 PAGE_LIMIT (without lo hi (under nodes.old.slots key)) }
+    ensures gone { result.gone + length (without lo hi (under nodes.old.slots key)) ≡ length (under nodes.old.slots key) }
+    ensures nodes { slab_len nodes.new + nodes_of (under nodes.old.slots key) ≡ slab_len nodes.old + nodes_of (without lo hi (under nodes.old.slots key)) }
+    ensures capacity { nodes.new.capacity ≡ nodes.old.capacity }
+{
+    if count_in(nodes, key, lo, hi) == 0 {
+        return Rest {
+            key: Some(key),
+            gone: 0,
+        };
+    }
+    discard(nodes, key, 0, PAGE_LIMIT, lo, hi)
 }
 
 /// Takes the entries away whose index is at least `lo` and below `hi`. The tree has its indexes from `from` on and below

@@ -45,8 +45,20 @@ fn put_piece<K: Sink>(sink: &mut K, out: &mut Gathered, piece: Piece<'_>) -> Res
     }
 }
 
+// Many numbers of a text have one digit, as those of most actors.
 #[inline(never)]
 fn put_number<K: Sink>(sink: &mut K, out: &mut Gathered, n: u64) -> Result<(), Failed>
+    ensures { Adds (outlet (K.held sink.old) out.old (K.faults sink.old)) (outlet (K.held sink.new) out.new (K.faults sink.new)) (decimal n) result }
+{
+    if n < 10 {
+        out.add(sink, &[b'0' + n as u8])
+    } else {
+        put_digits(sink, out, n)
+    }
+}
+
+#[inline(never)]
+fn put_digits<K: Sink>(sink: &mut K, out: &mut Gathered, n: u64) -> Result<(), Failed>
     ensures { Adds (outlet (K.held sink.old) out.old (K.faults sink.old)) (outlet (K.held sink.new) out.new (K.faults sink.new)) (decimal n) result }
 {
     let mut digits = itoa::Buffer::new();

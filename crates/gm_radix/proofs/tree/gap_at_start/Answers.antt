@@ -2,7 +2,7 @@ use Rattle.std.proofs.Common.{◌≡◌, ◌-◌, ◌<◌, Some, inl, arith, ap,
 use Rattle.gm_radix.specs.Entries.{gap_from}
 use Rattle.gm_base.specs.declared.numbers.TheConstants.{PAGE_LIMIT}
 use Rattle.gm_radix.proofs.Counts.{gap_from-full}
-use Rattle.gm_radix.proofs.Held.{at_fork, Holds-found, Holds-rises, Holds-wider, Holds-order}
+use Rattle.gm_radix.proofs.Held.{at_fork, Holds-found, Holds-wider, Holds-order}
 use Rattle.gm_radix.proofs.Lists.{gap_from-append, gap_from-most, gap_from-outside, length-Rises}
 use Rattle.gm_radix.specs.Nodes.{under}
 use Rattle.gm_radix.proofs.tree.gap_at_start.Goals as goal

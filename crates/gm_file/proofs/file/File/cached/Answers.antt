@@ -1,6 +1,7 @@
-use Rattle.gm_file.proofs.Caching.{cached_inside}
+use Rattle.std.proofs.Common.{arith, sym}
+use Rattle.gm_file.proofs.Caching.{lookup-past}
 use Rattle.gm_file.proofs.file.File.cached.Goals as goal
 
-pub returns-clause-inside : goal.returns-clause-inside
-returns-clause-inside c = λ h.
-    rw (← c.self.view_is) (cached_inside c.self.inside.pages c.args.index _ c.self.invariant.1 (rw c.get.ensures.value at h))
+pub returns-else-index-self-clause-folio : goal.returns-else-index-self-clause-folio
+returns-else-index-self-clause-folio c =
+    rw (← c.self.view_is) (sym (lookup-past 0 c.self.inside.end c.args.index _ c.self.invariant.1 (omega (arith, c.if-index-self.false))))
