@@ -75,27 +75,6 @@ count_after n lo hi [] p q = refl
 count_after n lo hi (e ∷ es) p q =
     ap (λ m. m + count_within 0 hi (e ∷ es)) (removed n lo hi e es) ∙ after_step e.0 n lo hi _ _ _ _ p q (count_after n lo hi es p q)
 
-le_step : (x lo hi c d : ℕ) → lo ≤ hi → c ≤ d → cond (nat_le 0 x && nat_lt x lo) (c + 1) c ≤ cond (nat_le 0 x && nat_lt x hi) (d + 1) d
-le_step x lo hi c d p q = grind (arith, nat_tests)
-
--- as many are before a later page, or more
-count_le : {V : Type 0} (lo hi : ℕ) (es : List (ℕ × V)) → lo ≤ hi → count_within 0 lo es ≤ count_within 0 hi es
-count_le lo hi [] p = omega arith
-count_le lo hi (e ∷ es) p = le_step e.0 lo hi _ _ p (count_le lo hi es p)
-
-none_here : (x lo hi c d : ℕ) → lo ≤ hi → c ≤ d → cond (nat_le 0 x && nat_lt x hi) (d + 1) d ≤ cond (nat_le 0 x && nat_lt x lo) (c + 1) c → (nat_le lo x && nat_lt x hi) ≡ false
-none_here x lo hi c d p q h = grind (arith, nat_tests)
-
-none_later : (x lo hi c d : ℕ) → lo ≤ hi → c ≤ d → cond (nat_le 0 x && nat_lt x hi) (d + 1) d ≤ cond (nat_le 0 x && nat_lt x lo) (c + 1) c → d ≤ c
-none_later x lo hi c d p q h = grind (arith, nat_tests)
-
--- where no more are before the later of two pages, a removal between them takes none
-pub without_none : {V : Type 0} (lo hi : ℕ) (es : List (ℕ × V)) → lo ≤ hi → count_within 0 hi es ≤ count_within 0 lo es → without lo hi es ≡ es
-without_none lo hi [] p h = refl
-without_none {V} lo hi (e ∷ es) p h =
-    ap (λ (b : Bool). cond b (without lo hi es) (e ∷ without lo hi es)) (none_here e.0 lo hi (count_within 0 lo es) (count_within 0 hi es) p (count_le lo hi es p) h)
-    ∙ ap (λ (xs : List (ℕ × V)). e ∷ xs) (without_none lo hi es p (none_later e.0 lo hi (count_within 0 lo es) (count_within 0 hi es) p (count_le lo hi es p) h))
-
 -- where no index from one on and before another has a value, as many are before both
 pub count_gap : {V : Type 0} (m n : ℕ) (es : List (ℕ × V)) → m ≤ n → ((k : ℕ) → m ≤ k → k < n → IsSome (lookup k es) → ⊥) → count_within 0 n es ≡ count_within 0 m es
 count_gap m n [] p h = refl
@@ -126,3 +105,24 @@ count_at {V} k lo hi (e ∷ es) h s = cases (nat_eq e.0 k) refl s (count_at k (e
         let same : e.0 ≡ k = grind (arith, nat_tests) in
         first e.0 k _ _ same (rest same)
     cases false t s r = other e.0 k _ _ t (r s)
+
+split_step : (x lo hi c d n : ℕ) → lo ≤ hi → c + d ≡ n → cond (nat_le 0 x && nat_lt x lo) (c + 1) c + cond (nat_le lo x && nat_lt x hi) (d + 1) d ≡ cond (nat_le 0 x && nat_lt x hi) (n + 1) n
+split_step x lo hi c d n p q = grind (arith, nat_tests)
+
+-- those before a later page are those before the earlier one and those from there on
+count_split : {V : Type 0} (lo hi : ℕ) (es : List (ℕ × V)) → lo ≤ hi → count_within 0 lo es + count_within lo hi es ≡ count_within 0 hi es
+count_split lo hi [] p = refl
+count_split lo hi (e ∷ es) p = split_step e.0 lo hi _ _ _ p (count_split lo hi es p)
+
+-- what a removal takes is counted
+count_gone : {V : Type 0} (lo hi : ℕ) (es : List (ℕ × V)) → count_within lo hi es + length (without lo hi es) ≡ length es
+count_gone lo hi [] = refl
+count_gone {V} lo hi (e ∷ es) = cases (is_within lo hi e) (count_gone lo hi es)
+  where
+    cases : (b : Bool) → count_within lo hi es + length (without lo hi es) ≡ length es → cond b (count_within lo hi es + 1) (count_within lo hi es) + length (cond b (without lo hi es) (e ∷ without lo hi es)) ≡ length (e ∷ es)
+    cases true h = omega (arith, h)
+    cases false h = omega (arith, h)
+
+-- so those before the removal and those that it takes are those before its end
+pub count_taken : {V : Type 0} (lo hi gone : ℕ) (es : List (ℕ × V)) → lo ≤ hi → gone + length (without lo hi es) ≡ length es → count_within 0 lo es + gone ≡ count_within 0 hi es
+count_taken lo hi gone es p h = omega (arith, h, count_gone lo hi es, count_split lo hi es p)

@@ -53,10 +53,7 @@ pub(crate) fn paint(edges: &mut Radix<()>, span: Span, value: bool)
 {
     let (lo, hi) = (span.lo(), span.hi());
     let before = edges.count_in(0, lo);
-    let after = edges.count_in(0, hi + 1);
-    if before < after {
-        edges.discard(lo, hi + 1);
-    }
+    let inside = edges.discard(lo, hi + 1);
     turn(edges, lo, is_turn(is_odd(before), value));
-    turn(edges, hi, is_turn(is_odd(after), value));
+    turn(edges, hi, is_turn(is_odd(before + inside), value));
 }
