@@ -13,6 +13,9 @@ use gm_radix::Radix;
 use std::alloc::Global;
 use std::marker::Model;
 
+// Memory is kept for so many pages more than are asked for, so that few turns ask for more.
+const MORE_PAGES: u32 = 63;
+
 /// A guest_memfd of a number of pages: which of its indexes have which folios, and which ranges of indexes are bound for
 /// which slots. Bound ranges don't meet. It keeps memory for a number of pages and ranges.
 #[derive(Drop)]
@@ -76,14 +79,16 @@ impl File {
         ensures enough { pages ≤ self.old.page_spare → binds ≤ self.old.bind_spare → IsOk result }
         ensures err { OnErr result (self.new ≡ self.old) }
     {
-        if self.page_spare < pages {
-            self.cache.reserve(pages)?;
+        let mut page_spare = self.page_spare;
+        if page_spare < pages {
+            page_spare = pages.saturating_add(MORE_PAGES);
+            self.cache.reserve(page_spare)?;
         }
         if self.bind_spare < binds {
             self.bound.reserve(binds as usize)?;
             self.bind_spare = binds;
         }
-        self.page_spare = self.page_spare.max(pages);
+        self.page_spare = page_spare;
         Ok(())
     }
 

@@ -61,12 +61,5 @@ pub(crate) fn block_beside(first: u64, end: u64, index: u64, from: u64, to: u64)
 
 // All bits up to the highest one of the number.
 fn ones_up_to_highest(number: u64) -> u64 {
-    let mut mask = number;
-    mask |= mask >> 1;
-    mask |= mask >> 2;
-    mask |= mask >> 4;
-    mask |= mask >> 8;
-    mask |= mask >> 16;
-    mask |= mask >> 32;
-    mask
+    u64::MAX.wrapping_shr(number.leading_zeros())
 }
