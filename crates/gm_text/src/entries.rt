@@ -144,7 +144,20 @@ fn put_page<K: Sink>(
 ) -> Result<(), Failed>
     ensures { Adds (outlet (K.held sink.old) out.old (K.faults sink.old)) (outlet (K.held sink.new) out.new (K.faults sink.new)) (what_text (PageTurn index folio pages)) result }
 {
-    put_text!(sink, out; Word b"page index=", Number index, Word b" serial=", Number folio.serial, Word b" frame=", Number folio.frame as u64, Word b" pages=", Number pages as u64)
+    put!(put_text!(sink, out; Word b"page index=", Number index));
+    put_folio(sink, out, folio, pages)
+}
+
+// The end of a page's text.
+fn put_folio<K: Sink>(
+    sink: &mut K,
+    out: &mut Gathered,
+    folio: Folio,
+    pages: u16,
+) -> Result<(), Failed>
+    ensures { Adds (outlet (K.held sink.old) out.old (K.faults sink.old)) (outlet (K.held sink.new) out.new (K.faults sink.new)) (joined (codes " serial=" ∷ decimal folio.serial ∷ codes " frame=" ∷ decimal folio.frame ∷ codes " pages=" ∷ decimal pages ∷ [])) result }
+{
+    put_text!(sink, out; Word b" serial=", Number folio.serial, Word b" frame=", Number folio.frame as u64, Word b" pages=", Number pages as u64)
 }
 
 fn put_free<K: Sink>(
