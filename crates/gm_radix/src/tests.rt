@@ -1,5 +1,5 @@
 use super::*;
-use crate::block::block_over;
+use crate::block::block_beside;
 use gm_base::PAGE_LIMIT;
 use std::test::Fail;
 
@@ -55,7 +55,7 @@ fn blocks_are_aligned(rt: HostRuntime) -> Result<(), Fail> {
         (512, 1023, 512, 768, 1024),
         (0, PAGE_LIMIT - 1, 0, PAGE_LIMIT / 2, PAGE_LIMIT),
     ] {
-        let block = block_over(low, high);
+        let block = block_beside(low, low + 1, high, 0, PAGE_LIMIT);
         assert_eq!(rt;
             (block.first, block.pivot, block.end),
             (first, pivot, end),
